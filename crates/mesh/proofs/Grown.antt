@@ -1,19 +1,20 @@
 -- A mesh with one link more.
 use mathlib.Core.Path.{_≡_, refl, sym, ap, subst, _∙_}
 use mathlib.Core.List.{List, [], _∷_, _++_}
-use mathlib.Core.Logic.{⊎-elim, inl, inr}
-use Prim.Native.Nat.{ℕ, _<_, _≤_, _+_}
+use mathlib.Core.Logic.{⊎-elim, _⊎_, inl, inr}
+use mathlib.Core.Bool.{Bool, true, false}
+use Prim.Native.Nat.{ℕ, _<_, _≤_, _+_, _*_}
 use native.Mathlib.Omega.{arith}
-use lib.ListN.{length, getD, take, drop}
-use Rattle.std.proofs.shelf.Lists.{length-push, getD-push, getD-append-left, getD-default, take-more, drop-more, drop-all, take-all, length-take-le}
-use Rattle.std.proofs.shelf.Tests.{cases-lt}
+use lib.ListN.{length, getD, take, drop, set, replicate}
+use Rattle.std.proofs.shelf.Lists.{length-push, getD-push, getD-append-left, getD-default, take-more, drop-more, drop-all, take-all, length-take-le, getD-set-same, getD-set-other, getD-replicate}
+use Rattle.std.proofs.shelf.Tests.{cases-lt, cases-eq, false≢true}
 use Rattle.fault.specs.Checks.{Check, check, Passes, Fails}
 use Rattle.fault.proofs.Ordered.{passes-both, fails-first, fails-later}
 use Rattle.mesh.specs.declared.link.Link.{Link}
 use Rattle.mesh.specs.declared.link.LinkFault.{LinkFault}
 use Rattle.mesh.specs.declared.link.MeshFault.{MeshFault}
 use Rattle.mesh.specs.declared.link.MeshFault.the-variants.{Nodes, Root, BadLink}
-use Rattle.mesh.specs.Rules.{Every-link, Pairs-once, Joins, Same-pair}
+use Rattle.mesh.specs.Rules.{Every-link, Pairs-once, Joins, Same-pair, Free-known, Used-known}
 use Rattle.mesh.specs.Checks.{link-checks, links-checks, numbered}
 
 -- What holds of every link and of one more, holds of all of them.
@@ -43,6 +44,53 @@ once-push ls l once fresh i j d (b, m, (f, g)) =
         let first′ = getD-default ls i c d in′ ∙ sym first in
         (ap (λ x. x .from) first′ ∙ f ∙ ap (λ x. x .from) second, ap (λ x. x .to) first′ ∙ g ∙ ap (λ x. x .to) second)))
     (cases-lt j (length ls))
+
+-- a link of a longer table is an old one or the last
+joins-left : (ls : List Link) (l : Link) (a b : ℕ) → Joins ls a b → Joins (ls ++ l ∷ []) a b
+joins-left ls l a b (i, in′, at) =
+    (i, omega (arith, length-push ls l), λ d. subst (λ x. (x .from ≡ a) × (x .to ≡ b)) (sym (getD-append-left ls (l ∷ []) d i in′)) (at d))
+
+joins-last : (ls : List Link) (l : Link) → Joins (ls ++ l ∷ []) (l .from) (l .to)
+joins-last ls l = (length ls, omega (arith, length-push ls l), λ d. subst (λ x. (x .from ≡ l .from) × (x .to ≡ l .to)) (sym (getD-push ls l d (length ls) refl)) (refl, refl))
+
+joins-cases : (ls : List Link) (l : Link) (a b : ℕ) → Joins (ls ++ l ∷ []) a b → Joins ls a b ⊎ ((l .from ≡ a) × (l .to ≡ b))
+joins-cases ls l a b (i, in′, at) =
+    let n = length-push ls l in
+    elim (cases-lt i (length ls)) [
+      inl old ↦ inl (i, old, λ d. subst (λ x. (x .from ≡ a) × (x .to ≡ b)) (getD-append-left ls (l ∷ []) d i old) (at d))
+    | inr last ↦ let e : length ls ≡ i = omega arith in inr (subst (λ x. (x .from ≡ a) × (x .to ≡ b)) (getD-push ls l l i e) (at l))
+    ]
+
+-- The index with the new link's place set is right for the links with the new one: at that place the new link joins the
+-- pair; at any other place nothing changed, and the new link joins another pair, since a place has one pair.
+module _ (taken : List Bool) (ls : List Link) (l : Link) (square : length taken ≡ 4096) (from-in : l .from < 64) (to-in : l .to < 64) where
+  pub free-push : Free-known taken ls → Free-known (set taken (l .from * 64 + l .to) true) (ls ++ l ∷ [])
+  free-push free a b (x, y, off, j) =
+      let in′ : l .from * 64 + l .to < length taken = omega arith in
+      elim (cases-eq (a * 64 + b) (l .from * 64 + l .to)) [
+        inl e ↦ false≢true (sym off ∙ ap (λ k. getD (set taken (l .from * 64 + l .to) true) k false) e ∙ getD-set-same taken (l .from * 64 + l .to) true false in′)
+      | inr ne ↦ elim (joins-cases ls l a b j) [
+            inl old ↦ free a b (x, y, sym (getD-set-other taken (l .from * 64 + l .to) (a * 64 + b) true false ne) ∙ off, old)
+          | inr new ↦ ne (omega (arith, new .0, new .1))
+          ]
+      ]
+
+  pub used-push : Used-known taken ls → Used-known (set taken (l .from * 64 + l .to) true) (ls ++ l ∷ [])
+  used-push used a b (x, y, on, no′) =
+      elim (cases-eq (a * 64 + b) (l .from * 64 + l .to)) [
+        inl e ↦
+          let f : l .from ≡ a = omega arith in
+          let g : l .to ≡ b = omega arith in
+          no′ (subst (λ m. Joins (ls ++ l ∷ []) m b) f (subst (λ m. Joins (ls ++ l ∷ []) (l .from) m) g (joins-last ls l)))
+      | inr ne ↦ used a b (x, y, sym (getD-set-other taken (l .from * 64 + l .to) (a * 64 + b) true false ne) ∙ on, λ j. no′ (joins-left ls l a b j))
+      ]
+
+-- an index that is all false is right where there is no link
+pub free-none : (taken : List Bool) (ls : List Link) → length ls ≡ 0 → Free-known taken ls
+free-none taken ls z a b (x, y, off, (i, in′, at)) = omega arith
+
+pub used-none : (taken : List Bool) (ls : List Link) → taken ≡ replicate 4096 false → Used-known taken ls
+used-none taken ls e a b (x, y, on, no′) = false≢true (sym (getD-replicate 4096 (a * 64 + b) false false (omega arith)) ∙ sym (ap (λ t. getD t (a * 64 + b) false) e) ∙ on)
 
 numbered-passes : (k : ℕ) (cs : List (Check LinkFault)) → Passes cs → Passes (numbered k cs)
 numbered-passes k [] p = tt

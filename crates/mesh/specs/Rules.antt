@@ -1,7 +1,8 @@
 -- The rules of a mesh: what its links may be.
 use mathlib.Core.Path.{_≡_}
 use mathlib.Core.List.{List}
-use Prim.Native.Nat.{ℕ, _<_, _≤_}
+use mathlib.Core.Bool.{Bool, true, false}
+use Prim.Native.Nat.{ℕ, _+_, _*_, _<_, _≤_}
 use lib.ListN.{length, getD}
 use Rattle.std.specs.shelf.Lists.{At}
 use Rattle.mesh.specs.declared.link.Link.{Link}
@@ -39,3 +40,11 @@ Pairs-once ls = (i j : ℕ) (d : Link) → ((i < j) × (j < length ls) × Same-p
 -- some link leads from a to b
 abbrev pub Joins : List Link → ℕ → ℕ → Type 0
 Joins ls a b = (i : ℕ) × (i < length ls) × At (λ l. (l .from ≡ a) × (l .to ≡ b)) ls i
+
+-- An index of the pairs of ends: place a * 64 + b is true where some link leads from a to b.
+-- A place that is false says that no link does; a place that is true rules out that none does.
+abbrev pub Free-known : List Bool → List Link → Type 0
+Free-known taken ls = (a b : ℕ) → ((a < 64) × (b < 64) × (getD taken (a * 64 + b) false ≡ false) × Joins ls a b → ⊥)
+
+abbrev pub Used-known : List Bool → List Link → Type 0
+Used-known taken ls = (a b : ℕ) → ((a < 64) × (b < 64) × (getD taken (a * 64 + b) false ≡ true) × (Joins ls a b → ⊥) → ⊥)

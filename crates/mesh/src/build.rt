@@ -1,7 +1,7 @@
 //! Making meshes: rule by rule, in the order of a session file.
 ghost use mathlib.Core.Path.{_≡_};
 ghost use mathlib.Core.List.{[], _∷_, _++_};
-ghost use Prim.Native.Nat.{_<_, _≤_};
+ghost use Prim.Native.Nat.{_+_, _*_, _<_, _≤_};
 ghost use lib.Dec.{leb};
 ghost use lib.ListN.{length};
 ghost use Rattle.std.specs.Of.Vec.{vec-items, vec-cap};
@@ -9,7 +9,7 @@ ghost use Rattle.std.specs.Orderings.{Decides};
 ghost use Rattle.std.specs.Results.{Cases};
 ghost use Rattle.std.specs.Vec.{made};
 ghost use Rattle.fault.specs.Checks.{Passes, Fails};
-ghost use Rattle.mesh.specs.Rules.{In-range, Joins};
+ghost use Rattle.mesh.specs.Rules.{In-range};
 ghost use Rattle.mesh.specs.Checks.{link-fault-number, mesh-fault-number, link-checks, root-checks, mesh-checks};
 use crate::link::Link;
 use crate::link::LinkFault;
@@ -24,6 +24,10 @@ pub const MAX_NODES: u8 = 64;
 
 /// The most links a mesh may have.
 pub const MAX_LINKS: usize = 512;
+
+// The index of pairs is a square of this side.
+const SIDE: usize = 64;
+const PAIRS: usize = 4096;
 
 impl LinkFault {
     /// The number of the rule that is broken.
@@ -58,7 +62,8 @@ impl LinkRoom {
         ensures { λ r. ⌜ made r (λ room. (vec-items (room .links) ≡ []) × (512 ≤ vec-cap (room .links))) ⌝ }
     {
         let links = Vec::with_capacity(heap, MAX_LINKS)?;
-        Ok(LinkRoom { links })
+        let taken = vec![in heap; false; PAIRS]?;
+        Ok(LinkRoom { links, taken })
     }
 }
 
@@ -69,16 +74,11 @@ fn in_range(nodes: u8, link: Link) -> bool
     link.from < nodes && link.to < nodes && link.width >= 1
 }
 
-// Whether a link with these ends is among `links`.
-fn joined(links: &[Link], from: u8, to: u8) -> bool
-    ensures { λ r. ⌜ Decides r (Joins (now (links .entry)) from to) ⌝ }
+// The place of an ordered pair of ends in the index of pairs.
+fn pair_of(link: Link) -> usize
+    ensures { λ r. ⌜ r ≡ link .from * 64 + link .to ⌝ }
 {
-    for l in links {
-        if l.from == from && l.to == to {
-            return true;
-        }
-    }
-    false
+    link.from as usize * SIDE + link.to as usize
 }
 
 impl Mesh {
@@ -92,8 +92,8 @@ impl Mesh {
         if root >= nodes {
             return Err(MeshFault::Root);
         }
-        let LinkRoom { links } = room;
-        Ok(Mesh { nodes, root, links })
+        let LinkRoom { links, taken } = room;
+        Ok(Mesh { nodes, root, links, taken })
     }
 
     /// Whether no further link can join.
@@ -118,9 +118,11 @@ impl Mesh {
         if link.from == link.to {
             return Err(LinkFault::SameEnds);
         }
-        if joined(&self.links, link.from, link.to) {
+        let pair = pair_of(link);
+        if self.taken[pair] {
             return Err(LinkFault::PairRepeated);
         }
+        self.taken[pair] = true;
         self.links.push_reserved(link);
         Ok(())
     }

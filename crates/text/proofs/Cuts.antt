@@ -8,8 +8,8 @@ use native.Mathlib.Omega.{arith}
 use lib.ListN.{length, getD, take, drop}
 use Rattle.std.specs.shelf.Lists.{All}
 use Rattle.std.proofs.shelf.Elements.{all-push}
-use Rattle.std.proofs.shelf.Lists.{length-push, length-append, length-take-le, take-append-drop, getD-drop, length-drop, drop-more, take-rest, nil-from-length}
-use Rattle.text.specs.Lines.{Mark, Field, Fields, Cut, Parted, spaced, Unbroken}
+use Rattle.std.proofs.shelf.Lists.{length-push, length-append, length-take-le, take-append-drop, take-all, take-at, drop-drop, getD-drop, length-drop, drop-more, take-rest, nil-from-length}
+use Rattle.text.specs.Lines.{Mark, Field, Fields, Parted, spaced}
 
 -- Two lists that agree, each cut at the first element that does not pass P, have the same cut.
 pub same-cut : (P : ℕ → Type 0) (f g : List ℕ) (x y : ℕ) (xs ys : List ℕ) → All P f → All P g → (P x → ⊥) → (P y → ⊥) → f ++ (x ∷ xs) ≡ g ++ (y ∷ ys) → (f ≡ g) × (x ≡ y) × (xs ≡ ys)
@@ -38,38 +38,51 @@ abbrev pub led : List (List ℕ) → List ℕ
 led [] = []
 led (f ∷ fs) = f ++ (32 ∷ led fs)
 
--- fs came, each with a space; if the line has fields, so has the rest
-pub record Sofar (line : List ℕ) (fs : List (List ℕ)) (rest : List ℕ) : Type 0 where
-  pub is : line ≡ led fs ++ rest
+-- the text begins with a line of fields
+abbrev pub Lined : List ℕ → Type 0
+Lined text = (line : List ℕ) × (after : List ℕ) × (fs : List (List ℕ)) × (text ≡ line ++ 10 ∷ after) × Fields line fs
+
+-- fs came, each with a space, and rest is left; if the text begins with a line of fields, so does the rest
+pub record Sofar (text : List ℕ) (fs : List (List ℕ)) (rest : List ℕ) : Type 0 where
+  pub is : text ≡ led fs ++ rest
   pub each : All Field fs
-  pub left : (gs : List (List ℕ)) → Fields line gs → (hs : List (List ℕ)) × Fields rest hs
+  pub left : Lined text → Lined rest
 
--- after a field and a space come the other fields
-next : (rest f more : List ℕ) → rest ≡ f ++ (32 ∷ more) → All Mark f → (gs : List (List ℕ)) → Fields rest gs → (hs : List (List ℕ)) × Fields more hs
-next rest f more e m [] w = absurd (omega (arith, w .some))
-next rest f more e m (g ∷ []) w = absurd (no-stop Mark f g 32 more (w .each .0 .1) no-space (sym e ∙ w .is))
-next rest f more e m (g ∷ h ∷ gs) w =
-    let r = same-cut Mark f g 32 32 more (spaced (h ∷ gs)) m (w .each .0 .1) no-space no-space (sym e ∙ w .is) in
-    (h ∷ gs, record { is = r .2; each = w .each .1; some = omega arith })
+no-feed : Mark 10 → ⊥
+no-feed m = omega (arith, m .0)
 
-pub other-stop : (rest f : List ℕ) (b : ℕ) (more : List ℕ) → rest ≡ f ++ (b ∷ more) → All Mark f → (Mark b → ⊥) → (b ≡ 32 → ⊥) → (gs : List (List ℕ)) → Fields rest gs → ⊥
-other-stop rest f b more e m p q [] w = omega (arith, w .some)
-other-stop rest f b more e m p q (g ∷ []) w = no-stop Mark f g b more (w .each .0 .1) p (sym e ∙ w .is)
-other-stop rest f b more e m p q (g ∷ h ∷ gs) w = q (same-cut Mark f g b 32 more (spaced (h ∷ gs)) m (w .each .0 .1) p no-space (sym e ∙ w .is) .1)
+-- Where the text begins with a line of fields, what stops its first field is a line feed or a space, and after a space
+-- the line goes on with fields.
+stops : (rest f : List ℕ) (b : ℕ) (more : List ℕ) → rest ≡ f ++ (b ∷ more) → All Mark f → (Mark b → ⊥) → Lined rest → (b ≡ 10) ⊎ ((b ≡ 32) × Lined more)
+stops rest f b more e m p (line, after, [], is, w) = absurd (omega (arith, w .some))
+stops rest f b more e m p (line, after, g ∷ [], is, w) =
+    inl (same-cut Mark f g b 10 more after m (w .each .0 .1) p no-feed (sym e ∙ is ∙ ap (λ t. t ++ 10 ∷ after) (w .is)) .1)
+stops rest f b more e m p (line, after, g ∷ h ∷ gs, is, w) =
+    let r = same-cut Mark f g b 32 more (spaced (h ∷ gs) ++ 10 ∷ after) m (w .each .0 .1) p no-space (sym e ∙ is ∙ ap (λ t. t ++ 10 ∷ after) (w .is) ∙ append-assoc g (32 ∷ spaced (h ∷ gs)) (10 ∷ after)) in
+    inr (r .1, (spaced (h ∷ gs), after, h ∷ gs, r .2, record { is = refl; each = w .each .1; some = omega arith }))
 
 first-mark : (g xs : List ℕ) → Field g → (0 < length (g ++ xs)) × Mark (getD (g ++ xs) 0 0)
 first-mark [] xs w = absurd (omega (arith, w .0))
 first-mark (b ∷ g) xs w = (omega arith, w .1 .0)
 
-pub no-field : (rest : List ℕ) → (0 < length rest → Mark (getD rest 0 0) → ⊥) → (gs : List (List ℕ)) → Fields rest gs → ⊥
-no-field rest p [] w = omega (arith, w .some)
-no-field rest p (g ∷ []) w =
-    let k = first-mark g [] (w .each .0) in
-    let e : rest ≡ g ++ [] = w .is ∙ sym (append-nil g) in
-    p (subst (λ r. 0 < length r) (sym e) (k .0)) (subst (λ r. Mark (getD r 0 0)) (sym e) (k .1))
-no-field rest p (g ∷ h ∷ gs) w =
-    let k = first-mark g (32 ∷ spaced (h ∷ gs)) (w .each .0) in
-    p (subst (λ r. 0 < length r) (sym (w .is)) (k .0)) (subst (λ r. Mark (getD r 0 0)) (sym (w .is)) (k .1))
+-- a line of fields begins with a byte that a field may hold
+begins : (rest : List ℕ) → Lined rest → (0 < length rest) × Mark (getD rest 0 0)
+begins rest (line, after, [], is, w) = absurd (omega (arith, w .some))
+begins rest (line, after, g ∷ [], is, w) =
+    let e : rest ≡ g ++ 10 ∷ after = is ∙ ap (λ t. t ++ 10 ∷ after) (w .is) in
+    subst (λ t. (0 < length t) × Mark (getD t 0 0)) (sym e) (first-mark g (10 ∷ after) (w .each .0))
+begins rest (line, after, g ∷ h ∷ gs, is, w) =
+    let e : rest ≡ g ++ (32 ∷ spaced (h ∷ gs) ++ 10 ∷ after) = is ∙ ap (λ t. t ++ 10 ∷ after) (w .is) ∙ append-assoc g (32 ∷ spaced (h ∷ gs)) (10 ∷ after) in
+    subst (λ t. (0 < length t) × Mark (getD t 0 0)) (sym e) (first-mark g (32 ∷ spaced (h ∷ gs) ++ 10 ∷ after) (w .each .0))
+
+pub no-line : (rest : List ℕ) → (0 < length rest → Mark (getD rest 0 0) → ⊥) → Lined rest → ⊥
+no-line rest p l = let b = begins rest l in p (b .0) (b .1)
+
+pub endless : (rest : List ℕ) → All Mark rest → Lined rest → ⊥
+endless rest m (line, after, fs, is, w) = no-stop Mark line rest 10 after m no-feed (sym is)
+
+pub other-stop : (rest f : List ℕ) (b : ℕ) (more : List ℕ) → rest ≡ f ++ (b ∷ more) → All Mark f → (Mark b → ⊥) → (b ≡ 10 → ⊥) → (b ≡ 32 → ⊥) → Lined rest → ⊥
+other-stop rest f b more e m p q r l = elim (stops rest f b more e m p l) [ inl x ↦ q x | inr x ↦ r (x .0) ]
 
 spaced-led : (fs : List (List ℕ)) (f : List ℕ) → led fs ++ f ≡ spaced (fs ++ f ∷ [])
 spaced-led [] f = refl
@@ -81,24 +94,23 @@ led-push [] f more = sym (append-assoc f (32 ∷ []) more)
 led-push (g ∷ fs) f more = append-assoc g (32 ∷ led fs) (f ++ (32 ∷ more)) ∙ ap (λ t. g ++ (32 ∷ t)) (led-push fs f more) ∙ sym (append-assoc g (32 ∷ led (fs ++ f ∷ [])) more)
 
 -- nothing came yet
-pub start : (line : List ℕ) → Sofar line [] line
-start line = record { is = refl; each = tt; left = λ gs w. (gs, w) }
+pub start : (text : List ℕ) → Sofar text [] text
+start text = record { is = refl; each = tt; left = λ l. l }
 
 -- one field more, and a space
-pub one-more : (line : List ℕ) (fs : List (List ℕ)) (rest f more : List ℕ) → Sofar line fs rest → Field f → rest ≡ f ++ (32 ∷ more) → Sofar line (fs ++ f ∷ []) more
-one-more line fs rest f more s w e = record {
+pub one-more : (text : List ℕ) (fs : List (List ℕ)) (rest f more : List ℕ) → Sofar text fs rest → Field f → rest ≡ f ++ (32 ∷ more) → Sofar text (fs ++ f ∷ []) more
+one-more text fs rest f more s w e = record {
   is = s .is ∙ ap (λ t. led fs ++ t) e ∙ led-push fs f more;
   each = all-push Field fs f (s .each) w;
-  left = λ gs k. let h = s .left gs k in next rest f more e (w .1) (h .0) (h .1);
+  left = λ l. elim (stops rest f 32 more e (w .1) no-space (s .left l)) [ inl z ↦ absurd (omega arith) | inr x ↦ x .1 ];
 }
 
--- the last field
-pub done : (line : List ℕ) (fs : List (List ℕ)) (rest : List ℕ) → Sofar line fs rest → Field rest → Fields line (fs ++ rest ∷ [])
-done line fs rest s w = record {
-  is = s .is ∙ spaced-led fs rest;
-  each = all-push Field fs rest (s .each) w;
-  some = omega (arith, length-push fs rest);
-}
+-- the last field, and a line feed: the line ends after as many bytes as stand before the line feed
+pub done : (text : List ℕ) (fs : List (List ℕ)) (rest f after : List ℕ) → Sofar text fs rest → Field f → rest ≡ f ++ (10 ∷ after) → (text ≡ (led fs ++ f) ++ 10 ∷ after) × Fields (led fs ++ f) (fs ++ f ∷ [])
+done text fs rest f after s w e = (
+  s .is ∙ ap (λ t. led fs ++ t) e ∙ sym (append-assoc (led fs) f (10 ∷ after)),
+  record { is = spaced-led fs f; each = all-push Field fs f (s .each) w; some = omega (arith, length-push fs f) },
+)
 
 -- what `span` and `split_at` found: the first n bytes of rest, which a field may hold, and what follows
 pub record Span (rest f after : List ℕ) (n : ℕ) : Type 0 where
@@ -150,10 +162,54 @@ first-of f (g ∷ fs) front rest w (m, inr (b, p, e)) =
     let r = same-cut Mark front f b 32 rest (spaced (g ∷ fs)) m (w .0 .1) p no-space (sym e) in
     (r .0, r .2)
 
-pub line-cut : (text : List ℕ) (i : ℕ) → i < length text → getD text i 0 ≡ 10 → Unbroken (take i text) → (text ≡ take (i - 0) text ++ 10 ∷ take (length text - (i + 1)) (drop (i + 1) text)) × Unbroken (take (i - 0) text)
-line-cut text i l e u =
-    let z : i ≡ i - 0 = omega arith in
-    (sym (take-append-drop i text)
-     ∙ ap (λ t. take i text ++ t) (drop-more text i 0 l ∙ ap (λ c. c ∷ drop (i + 1) text) e ∙ ap (λ t. 10 ∷ t) (sym (take-rest text (i + 1))))
-     ∙ ap (λ k. take k text ++ 10 ∷ take (length text - (i + 1)) (drop (i + 1) text)) z,
-     subst (λ k. Unbroken (take k text)) z u)
+
+-- What `span` found from place at of the text on: the next n bytes, which a field may hold, and no more.
+pub record Reach (text : List ℕ) (at n : ℕ) : Type 0 where
+  pub inside : at ≤ length text
+  pub within : n ≤ length (take (length text - at) (drop at text))
+  pub marks : All Mark (take n (take (length text - at) (drop at text)))
+  pub stops : n < length (take (length text - at) (drop at text)) → Mark (getD (take (length text - at) (drop at text)) n 0) → ⊥
+
+module _ (text : List ℕ) (at n : ℕ) (r : Reach text at n) where
+  part : take (length text - at) (drop at text) ≡ drop at text
+  part = take-rest text at
+
+  -- the bytes of the field
+  abbrev pub found : List ℕ
+  found = take n (drop at text)
+
+  pub found-marks : All Mark found
+  found-marks = subst (λ t. All Mark (take n t)) part (r .marks)
+
+  long : at + n ≤ length text
+  long = omega (arith, r .within, ap length part, length-drop at text, r .inside)
+
+  found-length : length found ≡ n
+  found-length = length-take-le n (drop at text) (omega (arith, long, length-drop at text))
+
+  pub found-field : (n ≡ 0 → ⊥) → Field found
+  found-field some = (omega (arith, some, found-length), found-marks)
+
+  pub nothing : n ≡ 0 → 0 < length (drop at text) → Mark (getD (drop at text) 0 0) → ⊥
+  nothing z h m =
+      r .stops (subst (λ k. k < length (take (length text - at) (drop at text))) (sym z) (subst (λ t. 0 < length t) (sym part) h))
+      (subst (λ k. Mark (getD (take (length text - at) (drop at text)) k 0)) (sym z) (subst (λ t. Mark (getD t 0 0)) (sym part) m))
+
+  pub all-found : length text ≤ at + n → All Mark (drop at text)
+  all-found h = subst (All Mark) (take-all n (drop at text) (omega (arith, length-drop at text))) found-marks
+
+  -- the byte after the field, and the rest
+  pub split : at + n < length text → drop at text ≡ found ++ (getD text (at + n) 0 ∷ drop ((at + n) + 1) text)
+  split h = sym (take-append-drop n (drop at text)) ∙ ap (λ t. found ++ t) (drop-drop n at text ∙ drop-more text (at + n) 0 h)
+
+  pub stop-mark : at + n < length text → Mark (getD text (at + n) 0) → ⊥
+  stop-mark h m =
+      r .stops (omega (arith, ap length part, length-drop at text))
+      (subst Mark (sym (ap (λ t. getD t n 0) part ∙ getD-drop at text n 0)) m)
+
+  -- The line before a line feed at that place is as long as that place.
+  pub line-at : (fs : List (List ℕ)) → Sofar text fs (drop at text) → take ((at + n) - 0) text ≡ led fs ++ found
+  line-at fs s =
+      let a : length (led fs) ≡ at = omega (arith, ap length (s .is), length-append (led fs) (drop at text), length-drop at text, r .inside) in
+      let e : text ≡ (led fs ++ found) ++ drop n (drop at text) = s .is ∙ ap (λ t. led fs ++ t) (sym (take-append-drop n (drop at text))) ∙ sym (append-assoc (led fs) found (drop n (drop at text))) in
+      ap (take ((at + n) - 0)) e ∙ take-at (led fs ++ found) (drop n (drop at text)) ((at + n) - 0) (omega (arith, length-append (led fs) found, a, found-length))

@@ -33,11 +33,6 @@ pub record Fields (line : List ℕ) (fs : List (List ℕ)) : Type 0 where
 abbrev pub Cut : ℕ → List ℕ → List (List ℕ) → Type 0
 Cut n line fs = Fields line fs × (length fs ≡ n)
 
--- how many fields a line has; none where it is no line of fields
-abbrev pub Counted : List ℕ → Option ℕ → Type 0
-Counted line (Some n) = (fs : List (List ℕ)) × Cut n line fs
-Counted line None = (fs : List (List ℕ)) → Fields line fs → ⊥
-
 -- front is the longest front of a line that a field may hold; one byte parts it from rest, unless it is all
 abbrev pub Parted : List ℕ → List ℕ → List ℕ → Type 0
 Parted line front rest =
@@ -48,7 +43,7 @@ Parted line front rest =
 abbrev pub Unbroken : List ℕ → Type 0
 Unbroken t = All (λ b. b ≡ 10 → ⊥) t
 
--- the first line of a text and what follows its line feed; none where no line feed comes
-abbrev pub First-line : List ℕ → Option (RefT (List ℕ) × RefT (List ℕ)) → Type 0
-First-line text None = Unbroken text
-First-line text (Some p) = (text ≡ p .0 .now ++ 10 ∷ p .1 .now) × Unbroken (p .0 .now)
+-- the text begins with a line of fields: n of them, the line and what follows its line feed; none where it does not
+abbrev pub First-line : List ℕ → Option (ℕ × RefT (List ℕ) × RefT (List ℕ)) → Type 0
+First-line text (Some p) = (text ≡ p .1 .now ++ 10 ∷ p .2 .now) × ((fs : List (List ℕ)) × Cut (p .0) (p .1 .now) fs)
+First-line text None = (line after : List ℕ) (fs : List (List ℕ)) → text ≡ line ++ 10 ∷ after → Fields line fs → ⊥

@@ -3,19 +3,7 @@ ghost use mathlib.Core.Path.{_≡_};
 ghost use Prim.Native.Nat.{_<_, _≤_};
 ghost use lib.ListN.{length, getD, take};
 ghost use Rattle.std.specs.shelf.Lists.{All};
-ghost use Rattle.text.specs.Lines.{Mark, Counted, Parted, First-line};
-
-/// The line at the front of a text, without its line feed, and what follows; none where no line feed comes.
-pub fn first_line(text: &[u8]) -> Option<(&[u8], &[u8])>
-    ensures { λ r. ⌜ First-line (now (text .entry)) r ⌝ }
-{
-    for (i, b) in text.iter().enumerate() {
-        if *b == b'\n' {
-            return Some((&text[0..i], &text[i + 1..]));
-        }
-    }
-    None
-}
+ghost use Rattle.text.specs.Lines.{Mark, Parted, First-line};
 
 // How many bytes of a field stand at the front.
 fn span(text: &[u8]) -> usize
@@ -31,24 +19,27 @@ fn span(text: &[u8]) -> usize
     text.len()
 }
 
-/// How many fields a line has; none where the line is not made of fields parted by one space.
-pub fn count_fields(line: &[u8]) -> Option<usize>
-    ensures { λ r. ⌜ Counted (now (line .entry)) r ⌝ }
+/// The line of fields at the front of a text: how many fields it has, the line without its line feed, and what
+/// follows. None where the text does not begin with fields, parted by one space, and then a line feed.
+pub fn first_line(text: &[u8]) -> Option<(usize, &[u8], &[u8])>
+    ensures { λ r. ⌜ First-line (now (text .entry)) r ⌝ }
 {
     let mut count = 0;
-    let mut rest = line;
+    let mut at = 0;
     loop {
-        let n = span(rest);
-        if n == 0 {
+        let n = span(&text[at..]);
+        let end = at + n;
+        if n == 0 || end >= text.len() {
             return None;
         }
-        let (_field, after) = rest.split_at(n);
         count += 1;
-        match after {
-            [] => return Some(count),
-            [b' ', more @ ..] => rest = more,
-            _ => return None,
+        if text[end] == b'\n' {
+            return Some((count, &text[0..end], &text[end + 1..]));
         }
+        if text[end] != b' ' {
+            return None;
+        }
+        at = end + 1;
     }
 }
 
