@@ -67,3 +67,53 @@ pub fn action_of(text: &[u8]) -> Result<Action, FieldFault>
         Err(FieldFault)
     }
 }
+
+impl Kind {
+    /// The word that stands for it in a session file.
+    pub fn word(self) -> &'static [u8]
+        ensures { λ r. ⌜ now r ≡ kind-word self ⌝ }
+    {
+        match self {
+            Kind::Cost => b"cost",
+            Kind::Width => b"width",
+        }
+    }
+}
+
+impl Detector {
+    /// The word that stands for it in a session file.
+    pub fn word(self) -> &'static [u8]
+        ensures { λ r. ⌜ now r ≡ detector-word self ⌝ }
+    {
+        match self {
+            Detector::Tree => b"tree",
+            Detector::Credit => b"credit",
+        }
+    }
+}
+
+impl Channel {
+    /// The word that stands for it in a session file.
+    pub fn word(self) -> &'static [u8]
+        ensures { λ r. ⌜ now r ≡ channel-word self ⌝ }
+    {
+        match self {
+            Channel::Queue => b"queue",
+            Channel::Stack => b"stack",
+            Channel::Picked => b"picked",
+        }
+    }
+}
+
+impl Action {
+    /// The word that stands for it in a session file.
+    pub fn word(self) -> &'static [u8]
+        ensures { λ r. ⌜ now r ≡ action-word self ⌝ }
+    {
+        match self {
+            Action::Deliver => b"deliver",
+            Action::Work => b"work",
+            Action::Control => b"control",
+        }
+    }
+}

@@ -43,7 +43,7 @@ stamped-is old at (b ∷ s) h =
     ∙ append-assoc (take at old) (b ∷ []) (s ++ drop ((at + 1) + length s) (set old at b))
     ∙ ap (λ t. take at old ++ (b ∷ (s ++ t))) (drop-set-lt ((at + 1) + length s) old at b (omega arith) ∙ ap (λ k. drop k old) e)
 
-pub at-front : (old s new : List ℕ) (end : ℕ) → length s ≤ length old → length old < 2 ^ 64 → Puts old 0 s new end → (end ≡ length s) × (new ≡ s ++ drop (length s) old)
+pub at-front : (old s new : List ℕ) (end : ℕ) → length s ≤ length old → length s < 2 ^ 64 → Puts old 0 s new end → (end ≡ length s) × (new ≡ s ++ drop (length s) old)
 at-front old s new end h small w =
     let z = zero-add (length s) in
     (w .place (omega arith) ∙ z, w .after (omega arith) ∙ stamped-is old 0 s (omega arith) ∙ ap (λ k. s ++ drop k old) z)

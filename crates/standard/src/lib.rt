@@ -1,0 +1,3 @@
+//! Sessions written in the standard column order, and what the program `normalize` prints.
+mod parts;
+pub mod report;
