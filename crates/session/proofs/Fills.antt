@@ -13,8 +13,8 @@ use Rattle.std.proofs.shelf.Tests.{cases-lt}
 use Rattle.fault.specs.Checks.{Check, Passes, Fails}
 use Rattle.text.specs.Lines.{Field, Fields, Cut, Parted, spaced}
 use Rattle.text.proofs.Cuts.{fields-same, first-of}
-use Rattle.session.specs.declared.faults.LineFault.{LineFault}
-use Rattle.session.specs.declared.faults.LineFault.the-variants.{BadField}
+use Rattle.vocab.specs.declared.faults.LineFault.{LineFault}
+use Rattle.vocab.specs.declared.faults.LineFault.the-variants.{BadField}
 use Rattle.session.specs.Columns.{Order, arranged, Field-takes}
 use Rattle.session.specs.Filling.{Put-at, Filled}
 use Rattle.session.specs.Verdict.{field-checks}

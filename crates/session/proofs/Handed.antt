@@ -6,10 +6,10 @@ use Rattle.std.specs.Results.{Cases}
 use Rattle.std.specs.declared.result.Result.{Result}
 use Rattle.std.specs.declared.result.Result.the-variants.{Ok, Err}
 use Rattle.text.specs.declared.number.FieldFault.{FieldFault}
-use Rattle.session.specs.declared.faults.LineFault.{LineFault}
-use Rattle.session.specs.declared.faults.LineFault.the-variants.{BadField}
-use Rattle.session.specs.declared.faults.ReadFault.{ReadFault}
-use Rattle.session.specs.declared.faults.ReadFault.the-variants.{Line}
+use Rattle.vocab.specs.declared.faults.LineFault.{LineFault}
+use Rattle.vocab.specs.declared.faults.LineFault.the-variants.{BadField}
+use Rattle.vocab.specs.declared.faults.ReadFault.{ReadFault}
+use Rattle.vocab.specs.declared.faults.ReadFault.the-variants.{Line}
 use Rattle.session.specs.Placed.{placed-field, placed-line}
 
 -- What a callee promised of its answer, at the answer with the place: accepted, or refused at that place.

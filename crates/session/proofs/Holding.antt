@@ -18,11 +18,12 @@ use Rattle.text.specs.Lines.{Field, spaced}
 use Rattle.text.proofs.Digits.{own}
 use Rattle.mesh.specs.declared.link.Link.{Link}
 use Rattle.mesh.specs.Rules.{In-range}
-use Rattle.session.specs.declared.kinds.Table.the-variants.{Steps}
-use Rattle.session.specs.declared.kinds.Setting.{Setting}
-use Rattle.session.specs.declared.kinds.Step.{Step}
+use Rattle.vocab.specs.declared.kinds.Table.the-variants.{Steps}
+use Rattle.vocab.specs.declared.kinds.Setting.{Setting}
+use Rattle.vocab.specs.declared.kinds.Step.{Step}
 use Rattle.session.specs.Columns.{Order, arranged}
-use Rattle.session.specs.Tables.{names, setting-values, link-values, step-values, setting-takes, link-takes, step-takes}
+use Rattle.session.specs.Tables.{setting-values, link-values, step-values, setting-takes, link-takes, step-takes}
+use Rattle.vocab.specs.Words.{names}
 use Rattle.session.specs.Content.{Setting-in-range}
 use Rattle.session.specs.Verdict.{field-checks, digit-first}
 use Rattle.session.proofs.Fills.{fields-pass}

@@ -15,9 +15,9 @@ use Rattle.mesh.specs.declared.link.Link.{Link}
 use Rattle.mesh.specs.declared.link.LinkFault.{LinkFault}
 use Rattle.mesh.specs.Rules.{In-range, Ends-differ, Joins}
 use Rattle.mesh.specs.Checks.{link-checks}
-use Rattle.session.specs.declared.kinds.Setting.{Setting}
-use Rattle.session.specs.declared.faults.LineFault.{LineFault}
-use Rattle.session.specs.declared.faults.LineFault.the-variants.{Layout, WrongNames, BadField, BadLink}
+use Rattle.vocab.specs.declared.kinds.Setting.{Setting}
+use Rattle.vocab.specs.declared.faults.LineFault.{LineFault}
+use Rattle.vocab.specs.declared.faults.LineFault.the-variants.{Layout, WrongNames, BadField, BadLink}
 use Rattle.session.specs.Columns.{Order, arranged}
 use Rattle.session.specs.Tables.{setting-takes, link-takes}
 use Rattle.session.specs.Verdict.{names-checks, field-checks, setting-checks, link-line-checks, place-of, Setting-line, Link-line}

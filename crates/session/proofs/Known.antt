@@ -18,19 +18,20 @@ use Rattle.text.specs.Lines.{Mark, Field}
 use Rattle.text.proofs.Digits.{own}
 use Rattle.mesh.specs.declared.link.Link.{Link}
 use Rattle.mesh.specs.Rules.{In-range}
-use Rattle.session.specs.declared.kinds.Table.{Table}
-use Rattle.session.specs.declared.kinds.Table.the-variants.{Settings, Links, Steps}
-use Rattle.session.specs.declared.kinds.Kind.{Kind}
-use Rattle.session.specs.declared.kinds.Kind.the-variants.{Cost, Width}
-use Rattle.session.specs.declared.kinds.Detector.{Detector}
-use Rattle.session.specs.declared.kinds.Detector.the-variants.{Tree, Credit}
-use Rattle.session.specs.declared.kinds.Channel.{Channel}
-use Rattle.session.specs.declared.kinds.Channel.the-variants.{Queue, Stack, Picked}
-use Rattle.session.specs.declared.kinds.Action.{Action}
-use Rattle.session.specs.declared.kinds.Action.the-variants.{Deliver, Work, Control}
-use Rattle.session.specs.declared.kinds.Setting.{Setting}
-use Rattle.session.specs.declared.kinds.Step.{Step}
-use Rattle.session.specs.Tables.{names, kind-word, detector-word, channel-word, action-word, setting-values, link-values, step-values}
+use Rattle.vocab.specs.declared.kinds.Table.{Table}
+use Rattle.vocab.specs.declared.kinds.Table.the-variants.{Settings, Links, Steps}
+use Rattle.vocab.specs.declared.kinds.Kind.{Kind}
+use Rattle.vocab.specs.declared.kinds.Kind.the-variants.{Cost, Width}
+use Rattle.vocab.specs.declared.kinds.Detector.{Detector}
+use Rattle.vocab.specs.declared.kinds.Detector.the-variants.{Tree, Credit}
+use Rattle.vocab.specs.declared.kinds.Channel.{Channel}
+use Rattle.vocab.specs.declared.kinds.Channel.the-variants.{Queue, Stack, Picked}
+use Rattle.vocab.specs.declared.kinds.Action.{Action}
+use Rattle.vocab.specs.declared.kinds.Action.the-variants.{Deliver, Work, Control}
+use Rattle.vocab.specs.declared.kinds.Setting.{Setting}
+use Rattle.vocab.specs.declared.kinds.Step.{Step}
+use Rattle.session.specs.Tables.{setting-values, link-values, step-values}
+use Rattle.vocab.specs.Words.{names, kind-word, detector-word, channel-word, action-word}
 use Rattle.session.specs.Content.{Setting-in-range}
 use Rattle.session.specs.Filling.{Apart}
 

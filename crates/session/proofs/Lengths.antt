@@ -8,9 +8,10 @@ use lib.ListN.{length, getD}
 use Rattle.std.specs.Joined.{joined}
 use Rattle.std.proofs.shelf.Lists.{length-append, length-map}
 use Rattle.text.specs.Lines.{spaced}
-use Rattle.session.specs.declared.kinds.Table.the-variants.{Settings, Links, Steps}
+use Rattle.vocab.specs.declared.kinds.Table.the-variants.{Settings, Links, Steps}
 use Rattle.session.specs.Columns.{Order, arranged, row, table}
-use Rattle.session.specs.Tables.{names, setting-values, link-values, step-values}
+use Rattle.session.specs.Tables.{setting-values, link-values, step-values}
+use Rattle.vocab.specs.Words.{names}
 use Rattle.session.specs.Content.{Content, text, standard, setting-text, links-text, steps-text}
 use Rattle.session.proofs.Orders.{distinct, below}
 use Rattle.session.proofs.Pigeons.{Distinct, Without, find, pigeons, sum-over}

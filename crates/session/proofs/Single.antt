@@ -21,16 +21,17 @@ use Rattle.text.specs.Lines.{Fields, Cut, Unbroken, spaced}
 use Rattle.text.proofs.Cuts.{same-cut, no-stop, fields-same}
 use Rattle.mesh.specs.declared.link.Link.{Link}
 use Rattle.mesh.specs.Rules.{In-range, Ends-differ, Joins}
-use Rattle.session.specs.declared.kinds.Table.{Table}
-use Rattle.session.specs.declared.kinds.Table.the-variants.{Settings, Links, Steps}
-use Rattle.session.specs.declared.kinds.Setting.{Setting}
-use Rattle.session.specs.declared.kinds.Step.{Step}
-use Rattle.session.specs.declared.faults.LineFault.{LineFault}
-use Rattle.session.specs.declared.faults.LineFault.the-variants.{Layout}
-use Rattle.session.specs.declared.faults.ReadFault.{ReadFault}
-use Rattle.session.specs.declared.faults.ReadFault.the-variants.{TooLong, Line, Missing}
+use Rattle.vocab.specs.declared.kinds.Table.{Table}
+use Rattle.vocab.specs.declared.kinds.Table.the-variants.{Settings, Links, Steps}
+use Rattle.vocab.specs.declared.kinds.Setting.{Setting}
+use Rattle.vocab.specs.declared.kinds.Step.{Step}
+use Rattle.vocab.specs.declared.faults.LineFault.{LineFault}
+use Rattle.vocab.specs.declared.faults.LineFault.the-variants.{Layout}
+use Rattle.vocab.specs.declared.faults.ReadFault.{ReadFault}
+use Rattle.vocab.specs.declared.faults.ReadFault.the-variants.{TooLong, Line, Missing}
 use Rattle.session.specs.Columns.{Order, arranged, row}
-use Rattle.session.specs.Tables.{names, setting-values, link-values, step-values, setting-takes, link-takes, step-takes}
+use Rattle.session.specs.Tables.{setting-values, link-values, step-values, setting-takes, link-takes, step-takes}
+use Rattle.vocab.specs.Words.{names}
 use Rattle.session.specs.Content.{Content, Kept, Setting-kept, Links-kept, setting-text, links-text, steps-text}
 use Rattle.session.specs.Verdict.{Place, at-setting-names, at-setting, at-link-names, at-links, at-steps, before, Sound, Up-to, Refused-at, Accepts, Refuses, May-end, line-number, line-checks, digit-first, names-checks, field-checks, setting-checks, link-line-checks, step-checks, Setting-line, Link-line, Judgement, accepted, refused, Judges, Judged}
 use Rattle.session.proofs.Orders.{cut-of, each, column}

@@ -10,18 +10,19 @@ use Rattle.std.proofs.shelf.Decimals.{same-from-decimal}
 use Rattle.text.specs.Lines.{Field, spaced}
 use Rattle.text.proofs.Cuts.{fields-same}
 use Rattle.mesh.specs.declared.link.Link.{Link}
-use Rattle.session.specs.declared.kinds.Kind.{Kind}
-use Rattle.session.specs.declared.kinds.Kind.the-variants.{Cost, Width}
-use Rattle.session.specs.declared.kinds.Detector.{Detector}
-use Rattle.session.specs.declared.kinds.Detector.the-variants.{Tree, Credit}
-use Rattle.session.specs.declared.kinds.Channel.{Channel}
-use Rattle.session.specs.declared.kinds.Channel.the-variants.{Queue, Stack, Picked}
-use Rattle.session.specs.declared.kinds.Action.{Action}
-use Rattle.session.specs.declared.kinds.Action.the-variants.{Deliver, Work, Control}
-use Rattle.session.specs.declared.kinds.Setting.{Setting}
-use Rattle.session.specs.declared.kinds.Step.{Step}
+use Rattle.vocab.specs.declared.kinds.Kind.{Kind}
+use Rattle.vocab.specs.declared.kinds.Kind.the-variants.{Cost, Width}
+use Rattle.vocab.specs.declared.kinds.Detector.{Detector}
+use Rattle.vocab.specs.declared.kinds.Detector.the-variants.{Tree, Credit}
+use Rattle.vocab.specs.declared.kinds.Channel.{Channel}
+use Rattle.vocab.specs.declared.kinds.Channel.the-variants.{Queue, Stack, Picked}
+use Rattle.vocab.specs.declared.kinds.Action.{Action}
+use Rattle.vocab.specs.declared.kinds.Action.the-variants.{Deliver, Work, Control}
+use Rattle.vocab.specs.declared.kinds.Setting.{Setting}
+use Rattle.vocab.specs.declared.kinds.Step.{Step}
 use Rattle.session.specs.Columns.{Order, arranged}
-use Rattle.session.specs.Tables.{kind-word, detector-word, channel-word, action-word, setting-values, link-values, step-values}
+use Rattle.session.specs.Tables.{setting-values, link-values, step-values}
+use Rattle.vocab.specs.Words.{kind-word, detector-word, channel-word, action-word}
 use Rattle.session.specs.Verdict.{Setting-line, Link-line}
 use Rattle.session.proofs.Orders.{cut-of, column}
 use Rattle.session.proofs.Known.{setting-fields, link-fields, step-fields}

@@ -17,15 +17,16 @@ use Rattle.text.specs.Lines.{Mark, Field, Fields, Cut, Unbroken, spaced}
 use Rattle.mesh.specs.declared.link.Link.{Link}
 use Rattle.mesh.specs.Rules.{In-range, Ends-differ, Joins}
 use Rattle.mesh.proofs.Grown.{once-push}
-use Rattle.session.specs.declared.kinds.Table.the-variants.{Settings, Links, Steps}
-use Rattle.session.specs.declared.kinds.Setting.{Setting}
-use Rattle.session.specs.declared.kinds.Step.{Step}
-use Rattle.session.specs.declared.faults.LineFault.{LineFault}
-use Rattle.session.specs.declared.faults.LineFault.the-variants.{Layout}
-use Rattle.session.specs.declared.faults.ReadFault.{ReadFault}
-use Rattle.session.specs.declared.faults.ReadFault.the-variants.{Line, Missing}
+use Rattle.vocab.specs.declared.kinds.Table.the-variants.{Settings, Links, Steps}
+use Rattle.vocab.specs.declared.kinds.Setting.{Setting}
+use Rattle.vocab.specs.declared.kinds.Step.{Step}
+use Rattle.vocab.specs.declared.faults.LineFault.{LineFault}
+use Rattle.vocab.specs.declared.faults.LineFault.the-variants.{Layout}
+use Rattle.vocab.specs.declared.faults.ReadFault.{ReadFault}
+use Rattle.vocab.specs.declared.faults.ReadFault.the-variants.{Line, Missing}
 use Rattle.session.specs.Columns.{Order, arranged, row}
-use Rattle.session.specs.Tables.{names, setting-values, link-values, step-values}
+use Rattle.session.specs.Tables.{setting-values, link-values, step-values}
+use Rattle.vocab.specs.Words.{names}
 use Rattle.session.specs.Content.{Setting-kept, Links-kept, Steps-kept, setting-text, links-text, steps-text}
 use Rattle.session.specs.Stages.{Next-line}
 use Rattle.session.specs.Verdict.{Place, at-setting-names, at-setting, at-link-names, at-links, at-steps, before, Up-to, Refuses, May-end, line-number, line-checks, digit-first, names-checks, link-line-checks, Link-line}

@@ -6,11 +6,12 @@ use lib.ListN.{length}
 use Rattle.std.specs.shelf.Lists.{All}
 use Rattle.mesh.specs.declared.link.Link.{Link}
 use Rattle.mesh.specs.Rules.{In-range, Ends-differ, Pairs-once}
-use Rattle.session.specs.declared.kinds.Table.the-variants.{Settings, Links, Steps}
-use Rattle.session.specs.declared.kinds.Setting.{Setting}
-use Rattle.session.specs.declared.kinds.Step.{Step}
+use Rattle.vocab.specs.declared.kinds.Table.the-variants.{Settings, Links, Steps}
+use Rattle.vocab.specs.declared.kinds.Setting.{Setting}
+use Rattle.vocab.specs.declared.kinds.Step.{Step}
 use Rattle.session.specs.Columns.{table}
-use Rattle.session.specs.Tables.{names, setting-values, link-values, step-values}
+use Rattle.session.specs.Tables.{setting-values, link-values, step-values}
+use Rattle.vocab.specs.Words.{names}
 
 pub record Content : Type 0 where
   pub setting : Setting

@@ -7,8 +7,8 @@ use Rattle.std.specs.declared.option.Option.{Option}
 use Rattle.std.specs.declared.option.Option.the-variants.{Some, None}
 use Rattle.fault.specs.Checks.{Passes}
 use Rattle.text.specs.Lines.{spaced}
-use Rattle.session.specs.declared.kinds.Setting.{Setting}
-use Rattle.session.specs.declared.kinds.Step.{Step}
+use Rattle.vocab.specs.declared.kinds.Setting.{Setting}
+use Rattle.vocab.specs.declared.kinds.Step.{Step}
 use Rattle.session.specs.declared.rows.LinkRow.{LinkRow}
 use Rattle.session.specs.Columns.{arranged}
 use Rattle.session.specs.Verdict.{field-checks}

@@ -3,10 +3,10 @@ use Prim.Native.Nat.{ℕ}
 use Rattle.std.specs.declared.result.Result.{Result}
 use Rattle.std.specs.declared.result.Result.the-variants.{Ok, Err}
 use Rattle.text.specs.declared.number.FieldFault.{FieldFault}
-use Rattle.session.specs.declared.faults.LineFault.{LineFault}
-use Rattle.session.specs.declared.faults.LineFault.the-variants.{BadField}
-use Rattle.session.specs.declared.faults.ReadFault.{ReadFault}
-use Rattle.session.specs.declared.faults.ReadFault.the-variants.{Line}
+use Rattle.vocab.specs.declared.faults.LineFault.{LineFault}
+use Rattle.vocab.specs.declared.faults.LineFault.the-variants.{BadField}
+use Rattle.vocab.specs.declared.faults.ReadFault.{ReadFault}
+use Rattle.vocab.specs.declared.faults.ReadFault.the-variants.{Line}
 
 -- a field's fault, with the field's number
 abbrev pub placed-field : {T : Type 0} → ℕ → Result T FieldFault → Result T LineFault

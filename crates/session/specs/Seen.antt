@@ -5,10 +5,10 @@ use Rattle.std.specs.Of.Vec.{vec-items}
 use Rattle.std.specs.declared.result.Result.{Result}
 use Rattle.std.specs.declared.result.Result.the-variants.{Ok, Err}
 use Rattle.session.specs.declared.session.Session.{Session}
-use Rattle.session.specs.declared.faults.ReadFault.{ReadFault}
+use Rattle.vocab.specs.declared.faults.ReadFault.{ReadFault}
 use Rattle.session.specs.Content.{Content}
-use Rattle.session.specs.declared.faults.ReadError.{ReadError}
-use Rattle.session.specs.declared.faults.ReadError.the-variants.{Fault, Memory}
+use Rattle.vocab.specs.declared.faults.ReadError.{ReadError}
+use Rattle.vocab.specs.declared.faults.ReadError.the-variants.{Fault, Memory}
 use Rattle.session.specs.Verdict.{Judgement, accepted, refused, Judged}
 
 -- what a session holds

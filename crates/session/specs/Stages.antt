@@ -10,11 +10,11 @@ use Rattle.std.specs.declared.result.Result.{Result}
 use Rattle.std.specs.declared.result.Result.the-variants.{Ok, Err}
 use Rattle.text.specs.Lines.{Fields, Cut}
 use Rattle.mesh.specs.declared.link.Link.{Link}
-use Rattle.session.specs.declared.kinds.Setting.{Setting}
-use Rattle.session.specs.declared.kinds.Step.{Step}
-use Rattle.session.specs.declared.faults.LineFault.the-variants.{Layout}
-use Rattle.session.specs.declared.faults.ReadFault.{ReadFault}
-use Rattle.session.specs.declared.faults.ReadFault.the-variants.{Line, Missing}
+use Rattle.vocab.specs.declared.kinds.Setting.{Setting}
+use Rattle.vocab.specs.declared.kinds.Step.{Step}
+use Rattle.vocab.specs.declared.faults.LineFault.the-variants.{Layout}
+use Rattle.vocab.specs.declared.faults.ReadFault.{ReadFault}
+use Rattle.vocab.specs.declared.faults.ReadFault.the-variants.{Line, Missing}
 use Rattle.session.specs.Verdict.{Up-to, Refuses, digit-first, at-link-names, at-links, at-steps}
 
 -- the next line, of number k: how many fields it has, the line and what follows it

@@ -1,48 +1,17 @@
--- The three tables: their names, what their columns take, and how a row is written.
+-- The three tables: how a row is written, and what a column takes.
 use mathlib.Core.Path.{_≡_}
 use mathlib.Core.List.{List, [], _∷_}
 use Prim.Native.Nat.{ℕ, zero, suc, _-_}
-use lib.Chars.{codes}
 use Rattle.std.specs.Written.{decimal}
 use Rattle.text.specs.Decimal.{Number}
+use Rattle.vocab.specs.Words.{kind-word, detector-word, channel-word, action-word}
 use Rattle.mesh.specs.declared.link.Link.{Link}
-use Rattle.session.specs.declared.kinds.Table.{Table}
-use Rattle.session.specs.declared.kinds.Table.the-variants.{Settings, Links, Steps}
-use Rattle.session.specs.declared.kinds.Kind.{Kind}
-use Rattle.session.specs.declared.kinds.Kind.the-variants.{Cost, Width}
-use Rattle.session.specs.declared.kinds.Detector.{Detector}
-use Rattle.session.specs.declared.kinds.Detector.the-variants.{Tree, Credit}
-use Rattle.session.specs.declared.kinds.Channel.{Channel}
-use Rattle.session.specs.declared.kinds.Channel.the-variants.{Queue, Stack, Picked}
-use Rattle.session.specs.declared.kinds.Action.{Action}
-use Rattle.session.specs.declared.kinds.Action.the-variants.{Deliver, Work, Control}
-use Rattle.session.specs.declared.kinds.Setting.{Setting}
-use Rattle.session.specs.declared.kinds.Step.{Step}
-
--- the names of a table's columns, in the standard order
-abbrev pub names : Table → List (List ℕ)
-names Settings = codes "nodes" ∷ codes "root" ∷ codes "kind" ∷ codes "detector" ∷ codes "channel" ∷ []
-names Links = codes "from" ∷ codes "to" ∷ codes "cost" ∷ codes "width" ∷ []
-names Steps = codes "step" ∷ codes "pick" ∷ []
-
--- the words
-abbrev pub kind-word : Kind → List ℕ
-kind-word Cost = codes "cost"
-kind-word Width = codes "width"
-
-abbrev pub detector-word : Detector → List ℕ
-detector-word Tree = codes "tree"
-detector-word Credit = codes "credit"
-
-abbrev pub channel-word : Channel → List ℕ
-channel-word Queue = codes "queue"
-channel-word Stack = codes "stack"
-channel-word Picked = codes "picked"
-
-abbrev pub action-word : Action → List ℕ
-action-word Deliver = codes "deliver"
-action-word Work = codes "work"
-action-word Control = codes "control"
+use Rattle.vocab.specs.declared.kinds.Kind.{Kind}
+use Rattle.vocab.specs.declared.kinds.Detector.{Detector}
+use Rattle.vocab.specs.declared.kinds.Channel.{Channel}
+use Rattle.vocab.specs.declared.kinds.Action.{Action}
+use Rattle.vocab.specs.declared.kinds.Setting.{Setting}
+use Rattle.vocab.specs.declared.kinds.Step.{Step}
 
 -- the columns of a row, in the standard order
 abbrev pub setting-values : Setting → List (List ℕ)

@@ -14,45 +14,17 @@ use Rattle.text.specs.Lines.{Cut, Unbroken, spaced}
 use Rattle.mesh.specs.declared.link.Link.{Link}
 use Rattle.mesh.specs.declared.link.LinkFault.the-variants.{TooMany, SameEnds, PairRepeated}
 use Rattle.mesh.specs.Rules.{In-range, Ends-differ, Joins}
-use Rattle.mesh.specs.Checks.{link-fault-number}
-use Rattle.session.specs.declared.kinds.Table.the-variants.{Settings, Links, Steps}
-use Rattle.session.specs.declared.kinds.Setting.{Setting}
-use Rattle.session.specs.declared.kinds.Step.{Step}
-use Rattle.session.specs.declared.faults.LineFault.{LineFault}
-use Rattle.session.specs.declared.faults.LineFault.the-variants.{Layout, WrongNames, BadField, BadLink}
-use Rattle.session.specs.declared.faults.ReadFault.{ReadFault}
-use Rattle.session.specs.declared.faults.ReadFault.the-variants.{TooLong, Line, Missing}
+use Rattle.vocab.specs.declared.kinds.Table.the-variants.{Settings, Links, Steps}
+use Rattle.vocab.specs.declared.kinds.Setting.{Setting}
+use Rattle.vocab.specs.declared.kinds.Step.{Step}
+use Rattle.vocab.specs.declared.faults.LineFault.{LineFault}
+use Rattle.vocab.specs.declared.faults.LineFault.the-variants.{Layout, WrongNames, BadField, BadLink}
+use Rattle.vocab.specs.declared.faults.ReadFault.{ReadFault}
+use Rattle.vocab.specs.declared.faults.ReadFault.the-variants.{TooLong, Line, Missing}
 use Rattle.session.specs.Columns.{Order, arranged, row, Field-takes}
-use Rattle.session.specs.Tables.{names, setting-values, link-values, setting-takes, link-takes, step-takes}
+use Rattle.session.specs.Tables.{setting-values, link-values, setting-takes, link-takes, step-takes}
+use Rattle.vocab.specs.Words.{names}
 use Rattle.session.specs.Content.{Content, Kept, Setting-in-range, Setting-kept, Links-kept, Steps-kept, setting-text, links-text, steps-text, text}
-
--- a fault's number; its line, from 1 (0 where the whole file is refused); its field, from 1 (0 where no field is meant)
-abbrev pub line-fault-number : LineFault → ℕ
-line-fault-number Layout = 2
-line-fault-number WrongNames = 3
-line-fault-number (BadField i) = 4
-line-fault-number (BadLink e) = link-fault-number e
-
-abbrev pub line-fault-field : LineFault → ℕ
-line-fault-field Layout = 0
-line-fault-field WrongNames = 0
-line-fault-field (BadField i) = i
-line-fault-field (BadLink e) = 0
-
-abbrev pub fault-number : ReadFault → ℕ
-fault-number TooLong = 1
-fault-number (Line k e) = line-fault-number e
-fault-number (Missing k) = 8
-
-abbrev pub fault-line : ReadFault → ℕ
-fault-line TooLong = 0
-fault-line (Line k e) = k
-fault-line (Missing k) = k
-
-abbrev pub fault-field : ReadFault → ℕ
-fault-field TooLong = 0
-fault-field (Line k e) = line-fault-field e
-fault-field (Missing k) = 0
 
 -- the checks of a line of the names ws
 abbrev pub names-checks : List (List ℕ) → List ℕ → List (Check LineFault)

@@ -3,12 +3,12 @@ ghost use mathlib.Core.Path.{_≡_};
 ghost use Prim.Native.Nat.{ℕ, _<_, _≤_};
 ghost use lib.ListN.{length, getD};
 ghost use Rattle.std.specs.Of.Vec.{vec-len, vec-cap, vec-items};
-ghost use Rattle.session.specs.declared.kinds.Step.{Step as AStep};
+ghost use Rattle.vocab.specs.declared.kinds.Step.{Step as AStep};
 ghost use Rattle.session.specs.Content.{standard};
-use crate::kinds::Channel;
-use crate::kinds::Detector;
-use crate::kinds::Kind;
-use crate::kinds::Step;
+use vocab::kinds::Channel;
+use vocab::kinds::Detector;
+use vocab::kinds::Kind;
+use vocab::kinds::Step;
 use mesh::mesh::LinkRoom;
 use mesh::mesh::Mesh;
 

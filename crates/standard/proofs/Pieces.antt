@@ -20,12 +20,13 @@ use Rattle.fault.specs.Layers.{layer-word}
 use Rattle.fault.specs.declared.Layer.the-variants.{Reader}
 use Rattle.mesh.specs.declared.link.Link.{Link}
 use Rattle.mesh.specs.Rules.{In-range, Ends-differ}
-use Rattle.session.specs.declared.kinds.Action.the-variants.{Deliver}
-use Rattle.session.specs.declared.faults.ReadFault.{ReadFault}
+use Rattle.vocab.specs.declared.kinds.Action.the-variants.{Deliver}
+use Rattle.vocab.specs.declared.faults.ReadFault.{ReadFault}
 use Rattle.session.specs.declared.session.Session.{Session}
 use Rattle.session.specs.Content.{Kept, standard}
 use Rattle.session.specs.Seen.{content, judgement}
-use Rattle.session.specs.Verdict.{Judged, accepted, fault-number, fault-line, fault-field}
+use Rattle.session.specs.Verdict.{Judged, accepted}
+use Rattle.vocab.specs.Faults.{fault-number, fault-line, fault-field}
 use Rattle.session.proofs.Lengths.{five, four, two}
 use Rattle.session.proofs.Single.{judged}
 use Rattle.standard.specs.Report.{fault-text, report-text}

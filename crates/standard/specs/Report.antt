@@ -10,9 +10,10 @@ use Rattle.std.specs.declared.option.Option.the-variants.{Some, None}
 use Rattle.text.specs.Lines.{spaced}
 use Rattle.fault.specs.Layers.{layer-word}
 use Rattle.fault.specs.declared.Layer.the-variants.{Reader}
-use Rattle.session.specs.declared.faults.ReadFault.{ReadFault}
+use Rattle.vocab.specs.declared.faults.ReadFault.{ReadFault}
 use Rattle.session.specs.Content.{standard}
-use Rattle.session.specs.Verdict.{Judgement, accepted, refused, fault-number, fault-line, fault-field}
+use Rattle.session.specs.Verdict.{Judgement, accepted, refused}
+use Rattle.vocab.specs.Faults.{fault-number, fault-line, fault-field}
 
 -- a fault: a line of names, and its number, layer, line and field
 abbrev pub fault-text : ReadFault → List ℕ

@@ -8,7 +8,7 @@ ghost use Rattle.session.specs.Verdict.{Judged, accepted};
 ghost use Rattle.standard.specs.Report.{Written, report-text};
 use crate::parts::put_fault;
 use crate::parts::put_session;
-use session::faults::ReadFault;
+use vocab::faults::ReadFault;
 use session::session::Session;
 
 /// The length of a session's text.

@@ -5,6 +5,10 @@ ghost use lib.ListN.{length, getD, take};
 ghost use Rattle.std.specs.shelf.Lists.{All};
 ghost use Rattle.text.specs.Lines.{Mark, Parted, First-line};
 
+// The least and the greatest byte that a field may hold.
+const FIRST_MARK: u8 = 33;
+const LAST_MARK: u8 = 126;
+
 // How many bytes of a field stand at the front.
 fn span(text: &[u8]) -> usize
     ensures within { λ r. ⌜ r ≤ length (now (text .entry)) ⌝ }
@@ -12,7 +16,7 @@ fn span(text: &[u8]) -> usize
     ensures stops { λ r. ⌜ (r < length (now (text .entry)) → Mark (getD (now (text .entry)) r 0) → ⊥) ⌝ }
 {
     for (i, b) in text.iter().enumerate() {
-        if *b < 33 || *b > 126 {
+        if *b < FIRST_MARK || *b > LAST_MARK {
             return i;
         }
     }

@@ -9,7 +9,7 @@ use Rattle.std.proofs.shelf.Lists.{length-map}
 use Rattle.std.proofs.shelf.Results.{err-from-errBy}
 use Rattle.text.specs.Lines.{Field, Cut}
 use Rattle.session.specs.Columns.{texts}
-use Rattle.session.specs.Tables.{names}
+use Rattle.vocab.specs.Words.{names}
 use Rattle.session.specs.Filling.{Apart}
 use Rattle.std.specs.Of.Vec.{vec-items}
 use Rattle.session.proofs.Judging.{named}

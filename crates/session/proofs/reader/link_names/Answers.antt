@@ -5,9 +5,9 @@ use Rattle.std.specs.Of.Vec.{vec-items}
 use Rattle.std.proofs.shelf.Results.{err-from-errBy}
 use Rattle.fault.specs.Checks.{Fails}
 use Rattle.text.specs.Lines.{spaced}
-use Rattle.session.specs.declared.kinds.Table.the-variants.{Links}
+use Rattle.vocab.specs.declared.kinds.Table.the-variants.{Links}
 use Rattle.session.specs.Columns.{Order, arranged}
-use Rattle.session.specs.Tables.{names}
+use Rattle.vocab.specs.Words.{names}
 use Rattle.session.specs.Verdict.{at-link-names, names-checks}
 use Rattle.session.proofs.Handed.{line-ok, line-err}
 use Rattle.session.proofs.Walks.{refuse, refuse-next, to-links}

@@ -10,8 +10,8 @@ use Rattle.std.proofs.shelf.Results.{err-from-errBy}
 use Rattle.fault.specs.Checks.{Fails}
 use Rattle.mesh.specs.declared.link.Link.{Link}
 use Rattle.mesh.specs.Rules.{Ends-differ, Joins}
-use Rattle.session.specs.declared.kinds.Setting.{Setting}
-use Rattle.session.specs.declared.faults.ReadFault.the-variants.{Line}
+use Rattle.vocab.specs.declared.kinds.Setting.{Setting}
+use Rattle.vocab.specs.declared.faults.ReadFault.the-variants.{Line}
 use Rattle.session.specs.Verdict.{digit-first, Up-to, at-links, link-line-checks, Link-line}
 use Rattle.session.proofs.Handed.{line-ok, line-err}
 use Rattle.session.proofs.Walks.{refuse, refuse-next, more-links, link-line-at, shorter}

@@ -3,7 +3,7 @@ use mathlib.Core.List.{List, []}
 use Prim.Native.Nat.{ℕ}
 use lib.ListN.{length}
 use Rattle.std.specs.Of.Vec.{vec-items}
-use Rattle.session.specs.declared.kinds.Setting.{Setting}
+use Rattle.vocab.specs.declared.kinds.Setting.{Setting}
 use Rattle.session.specs.Verdict.{Up-to, at-links}
 use Rattle.session.proofs.reader.link_table.Given as given
 

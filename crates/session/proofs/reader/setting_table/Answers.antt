@@ -7,9 +7,10 @@ use Rattle.std.specs.Results.{Cases}
 use Rattle.std.proofs.shelf.Results.{err-from-errBy}
 use Rattle.fault.specs.Checks.{Fails}
 use Rattle.text.specs.Lines.{spaced}
-use Rattle.session.specs.declared.kinds.Table.the-variants.{Settings}
+use Rattle.vocab.specs.declared.kinds.Table.the-variants.{Settings}
 use Rattle.session.specs.Columns.{Order, arranged}
-use Rattle.session.specs.Tables.{names, setting-values}
+use Rattle.session.specs.Tables.{setting-values}
+use Rattle.vocab.specs.Words.{names}
 use Rattle.session.specs.Content.{Setting-kept}
 use Rattle.session.specs.Verdict.{Up-to, at-setting-names, at-setting, names-checks, setting-checks}
 use Rattle.session.proofs.Handed.{line-ok, line-err}

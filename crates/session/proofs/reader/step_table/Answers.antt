@@ -10,8 +10,8 @@ use Rattle.std.proofs.shelf.Lists.{nil-from-length}
 use Rattle.std.proofs.shelf.Results.{err-from-errBy}
 use Rattle.fault.specs.Checks.{Fails}
 use Rattle.text.specs.Lines.{spaced}
-use Rattle.session.specs.declared.kinds.Step.{Step}
-use Rattle.session.specs.declared.faults.ReadFault.the-variants.{Line}
+use Rattle.vocab.specs.declared.kinds.Step.{Step}
+use Rattle.vocab.specs.declared.faults.ReadFault.the-variants.{Line}
 use Rattle.session.specs.Columns.{arranged}
 use Rattle.session.specs.Tables.{step-values}
 use Rattle.session.specs.Verdict.{Up-to, at-steps, step-checks}

@@ -4,7 +4,7 @@ use Prim.Native.Nat.{ℕ, _≤_, _+_, _*_}
 use lib.ListN.{length}
 use Rattle.std.specs.Of.Vec.{vec-items, vec-len, vec-cap}
 use Rattle.mesh.specs.declared.link.Link.{Link}
-use Rattle.session.specs.declared.kinds.Setting.{Setting}
+use Rattle.vocab.specs.declared.kinds.Setting.{Setting}
 use Rattle.session.specs.Verdict.{Up-to, at-steps}
 use Rattle.session.proofs.reader.step_table.Given as given
 

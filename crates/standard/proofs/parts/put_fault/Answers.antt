@@ -5,7 +5,7 @@ use Rattle.std.specs.Written.{decimal}
 use Rattle.text.proofs.Stamps.{then}
 use Rattle.fault.specs.Layers.{layer-word}
 use Rattle.fault.specs.declared.Layer.the-variants.{Reader}
-use Rattle.session.specs.Verdict.{fault-number, fault-line, fault-field}
+use Rattle.vocab.specs.Faults.{fault-number, fault-line, fault-field}
 use Rattle.standard.proofs.Pieces.{same, after4}
 use Rattle.standard.proofs.parts.put_fault.Needs as need
 

@@ -3,11 +3,12 @@ use mathlib.Core.List.{_∷_, [], _++_, map}
 use Rattle.std.specs.Joined.{joined}
 use Rattle.text.proofs.Stamps.{then}
 use Rattle.std.specs.Of.Vec.{vec-items}
-use Rattle.session.specs.declared.kinds.Table.the-variants.{Links, Steps}
+use Rattle.vocab.specs.declared.kinds.Table.the-variants.{Links, Steps}
 use Rattle.session.specs.Columns.{row}
 use Rattle.session.specs.Content.{setting-text}
 use Rattle.session.specs.Seen.{content}
-use Rattle.session.specs.Tables.{names, link-values, step-values}
+use Rattle.session.specs.Tables.{link-values, step-values}
+use Rattle.vocab.specs.Words.{names}
 use Rattle.standard.proofs.Pieces.{same, tables}
 use Rattle.standard.proofs.parts.put_session.Needs as need
 

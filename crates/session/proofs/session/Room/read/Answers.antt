@@ -10,11 +10,11 @@ use Rattle.std.proofs.shelf.Lists.{length-append}
 use Rattle.std.proofs.shelf.Results.{err-from-errBy}
 use Rattle.fault.specs.Checks.{Fails}
 use Rattle.text.specs.Lines.{spaced}
-use Rattle.session.specs.declared.kinds.Table.the-variants.{Steps}
-use Rattle.session.specs.declared.kinds.Setting.{Setting}
-use Rattle.session.specs.declared.faults.ReadFault.the-variants.{Line}
+use Rattle.vocab.specs.declared.kinds.Table.the-variants.{Steps}
+use Rattle.vocab.specs.declared.kinds.Setting.{Setting}
+use Rattle.vocab.specs.declared.faults.ReadFault.the-variants.{Line}
 use Rattle.session.specs.Columns.{Order, arranged}
-use Rattle.session.specs.Tables.{names}
+use Rattle.vocab.specs.Words.{names}
 use Rattle.session.specs.Content.{Content}
 use Rattle.session.specs.Stages.{Links-read, Steps-read}
 use Rattle.session.specs.Verdict.{Up-to, Accepts, at-link-names, at-links, at-steps, before, names-checks, Judgement, accepted, refused}

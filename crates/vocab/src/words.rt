@@ -1,11 +1,11 @@
 //! The words of a session file.
 ghost use mathlib.Core.Path.{_≡_};
 ghost use Rattle.std.specs.Results.{Cases};
-ghost use Rattle.session.specs.declared.kinds.Kind.{Kind as AKind};
-ghost use Rattle.session.specs.declared.kinds.Detector.{Detector as ADetector};
-ghost use Rattle.session.specs.declared.kinds.Channel.{Channel as AChannel};
-ghost use Rattle.session.specs.declared.kinds.Action.{Action as AnAction};
-ghost use Rattle.session.specs.Tables.{kind-word, detector-word, channel-word, action-word};
+ghost use Rattle.vocab.specs.declared.kinds.Kind.{Kind as AKind};
+ghost use Rattle.vocab.specs.declared.kinds.Detector.{Detector as ADetector};
+ghost use Rattle.vocab.specs.declared.kinds.Channel.{Channel as AChannel};
+ghost use Rattle.vocab.specs.declared.kinds.Action.{Action as AnAction};
+ghost use Rattle.vocab.specs.Words.{kind-word, detector-word, channel-word, action-word};
 use crate::kinds::Action;
 use crate::kinds::Channel;
 use crate::kinds::Detector;

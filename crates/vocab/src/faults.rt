@@ -1,9 +1,9 @@
 //! Why a session file is refused.
 ghost use mathlib.Core.Path.{_≡_};
 ghost use Rattle.fault.specs.declared.Layer.the-variants.{Reader};
-ghost use Rattle.session.specs.declared.faults.LineFault.the-variants.{BadLink};
-ghost use Rattle.session.specs.declared.faults.ReadError.the-variants.{Memory, Fault};
-ghost use Rattle.session.specs.Verdict.{line-fault-number, line-fault-field, fault-number, fault-line, fault-field};
+ghost use Rattle.vocab.specs.declared.faults.LineFault.the-variants.{BadLink};
+ghost use Rattle.vocab.specs.declared.faults.ReadError.the-variants.{Memory, Fault};
+ghost use Rattle.vocab.specs.Faults.{line-fault-number, line-fault-field, fault-number, fault-line, fault-field};
 use fault::Layer;
 use mesh::link::LinkFault;
 use std::alloc::AllocError;
