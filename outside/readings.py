@@ -33,6 +33,7 @@ sys.dont_write_bytecode = True
 import reader  # noqa: E402  (after the switch above)
 
 CRATE = pathlib.Path(__file__).resolve().parent.parent / "crates" / "readings"
+EXAMPLES = pathlib.Path(__file__).resolve().parent.parent / "examples"
 LONGEST_SHOWN = 400
 
 VALID = "valid"
@@ -869,6 +870,12 @@ def random_damage_cases():
         yield case(f"random-line-{number}-{sort}", lines, OPEN)
 
 
+def example_cases():
+    """The session files of examples/, all of them valid."""
+    for path in sorted(EXAMPLES.glob("*.session")):
+        yield Case("example-" + path.stem, path.read_bytes(), VALID)
+
+
 def all_cases():
     """Every case, in the order of the archive."""
     yield case("base", BASE, VALID)
@@ -884,6 +891,7 @@ def all_cases():
     yield from link_count_cases()
     yield from size_cases()
     yield from step_cases()
+    yield from example_cases()
     yield from random_valid_cases()
     yield from random_damage_cases()
 

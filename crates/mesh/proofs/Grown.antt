@@ -34,15 +34,19 @@ once-push ls l once fresh i j d (b, m, (f, g)) =
     let first = getD-append-left ls (l ∷ []) d i (omega arith) in
     ⊎-elim
     (λ inside.
-      let second = getD-append-left ls (l ∷ []) d j inside in
-      once i j d (b, inside, (ap (λ x. x .from) (sym first) ∙ f ∙ ap (λ x. x .from) second, ap (λ x. x .to) (sym first) ∙ g ∙ ap (λ x. x .to) second)))
+    let second = getD-append-left ls (l ∷ []) d j inside in
+    once i j d (b, inside, (ap (λ x. x .from) (sym first) ∙ f ∙ ap (λ x. x .from) second, ap (λ x. x .to) (sym first) ∙ g ∙ ap (λ x. x .to) second)))
     (λ last.
-      let e : length ls ≡ j = omega arith in
-      let second = getD-push ls l d j e in
-      let in′ : i < length ls = omega arith in
-      fresh (i, in′, λ c.
-        let first′ = getD-default ls i c d in′ ∙ sym first in
-        (ap (λ x. x .from) first′ ∙ f ∙ ap (λ x. x .from) second, ap (λ x. x .to) first′ ∙ g ∙ ap (λ x. x .to) second)))
+    let e : length ls ≡ j = omega arith in
+    let second = getD-push ls l d j e in
+    let in′ : i < length ls = omega arith in
+    fresh (
+      i,
+      in′,
+      λ c.
+          let first′ = getD-default ls i c d in′ ∙ sym first in
+          (ap (λ x. x .from) first′ ∙ f ∙ ap (λ x. x .from) second, ap (λ x. x .to) first′ ∙ g ∙ ap (λ x. x .to) second),
+    ))
     (cases-lt j (length ls))
 
 -- a link of a longer table is an old one or the last
@@ -57,8 +61,8 @@ joins-cases : (ls : List Link) (l : Link) (a b : ℕ) → Joins (ls ++ l ∷ [])
 joins-cases ls l a b (i, in′, at) =
     let n = length-push ls l in
     elim (cases-lt i (length ls)) [
-      inl old ↦ inl (i, old, λ d. subst (λ x. (x .from ≡ a) × (x .to ≡ b)) (getD-append-left ls (l ∷ []) d i old) (at d))
-    | inr last ↦ let e : length ls ≡ i = omega arith in inr (subst (λ x. (x .from ≡ a) × (x .to ≡ b)) (getD-push ls l l i e) (at l))
+      | inl old ↦ inl (i, old, λ d. subst (λ x. (x .from ≡ a) × (x .to ≡ b)) (getD-append-left ls (l ∷ []) d i old) (at d))
+      | inr last ↦ let e : length ls ≡ i = omega arith in inr (subst (λ x. (x .from ≡ a) × (x .to ≡ b)) (getD-push ls l l i e) (at l))
     ]
 
 -- The index with the new link's place set is right for the links with the new one: at that place the new link joins the
@@ -68,21 +72,21 @@ module _ (taken : List Bool) (ls : List Link) (l : Link) (square : length taken 
   free-push free a b (x, y, off, j) =
       let in′ : l .from * 64 + l .to < length taken = omega arith in
       elim (cases-eq (a * 64 + b) (l .from * 64 + l .to)) [
-        inl e ↦ false≢true (sym off ∙ ap (λ k. getD (set taken (l .from * 64 + l .to) true) k false) e ∙ getD-set-same taken (l .from * 64 + l .to) true false in′)
-      | inr ne ↦ elim (joins-cases ls l a b j) [
-            inl old ↦ free a b (x, y, sym (getD-set-other taken (l .from * 64 + l .to) (a * 64 + b) true false ne) ∙ off, old)
+        | inl e ↦ false≢true (sym off ∙ ap (λ k. getD (set taken (l .from * 64 + l .to) true) k false) e ∙ getD-set-same taken (l .from * 64 + l .to) true false in′)
+        | inr ne ↦ elim (joins-cases ls l a b j) [
+          | inl old ↦ free a b (x, y, sym (getD-set-other taken (l .from * 64 + l .to) (a * 64 + b) true false ne) ∙ off, old)
           | inr new ↦ ne (omega (arith, new .0, new .1))
-          ]
+        ]
       ]
 
   pub used-push : Used-known taken ls → Used-known (set taken (l .from * 64 + l .to) true) (ls ++ l ∷ [])
   used-push used a b (x, y, on, no′) =
       elim (cases-eq (a * 64 + b) (l .from * 64 + l .to)) [
-        inl e ↦
-          let f : l .from ≡ a = omega arith in
-          let g : l .to ≡ b = omega arith in
-          no′ (subst (λ m. Joins (ls ++ l ∷ []) m b) f (subst (λ m. Joins (ls ++ l ∷ []) (l .from) m) g (joins-last ls l)))
-      | inr ne ↦ used a b (x, y, sym (getD-set-other taken (l .from * 64 + l .to) (a * 64 + b) true false ne) ∙ on, λ j. no′ (joins-left ls l a b j))
+        | inl e ↦
+            let f : l .from ≡ a = omega arith in
+            let g : l .to ≡ b = omega arith in
+            no′ (subst (λ m. Joins (ls ++ l ∷ []) m b) f (subst (λ m. Joins (ls ++ l ∷ []) (l .from) m) g (joins-last ls l)))
+        | inr ne ↦ used a b (x, y, sym (getD-set-other taken (l .from * 64 + l .to) (a * 64 + b) true false ne) ∙ on, λ j. no′ (joins-left ls l a b j))
       ]
 
 -- an index that is all false is right where there is no link
@@ -133,5 +137,5 @@ module _ (nodes : ℕ) (ls : List Link) (k : ℕ) (s : Sofar nodes ls k) where
     refused e f =
         let n = length-take-le k ls (omega arith) in
         s .fails _ (subst (λ t. Fails (links-checks nodes (take k ls) t) (BadLink k e)) (sym split)
-          (fails-first (numbered (length (take k ls)) (link-checks nodes (take k ls) l)) _ _
-            (subst (λ m. Fails (numbered m (link-checks nodes (take k ls) l)) (BadLink k e)) (sym n) (numbered-fails k (link-checks nodes (take k ls) l) e f))))
+        (fails-first (numbered (length (take k ls)) (link-checks nodes (take k ls) l)) _ _
+        (subst (λ m. Fails (numbered m (link-checks nodes (take k ls) l)) (BadLink k e)) (sym n) (numbered-fails k (link-checks nodes (take k ls) l) e f))))

@@ -42,7 +42,8 @@ abbrev pub Joins : List Link → ℕ → ℕ → Type 0
 Joins ls a b = (i : ℕ) × (i < length ls) × At (λ l. (l .from ≡ a) × (l .to ≡ b)) ls i
 
 -- An index of the pairs of ends: place a * 64 + b is true where some link leads from a to b.
--- A place that is false says that no link does; a place that is true rules out that none does.
+-- A place that is false says that no link does: one that does would contradict it. A place that is true says that
+-- one does, as a contradiction with none doing so.
 abbrev pub Free-known : List Bool → List Link → Type 0
 Free-known taken ls = (a b : ℕ) → ((a < 64) × (b < 64) × (getD taken (a * 64 + b) false ≡ false) × Joins ls a b → ⊥)
 

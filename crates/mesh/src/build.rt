@@ -27,6 +27,7 @@ pub const MAX_LINKS: usize = 512;
 
 // The index of pairs is a square of this side.
 const SIDE: usize = 64;
+
 const PAIRS: usize = 4096;
 
 impl LinkFault {
@@ -93,7 +94,12 @@ impl Mesh {
             return Err(MeshFault::Root);
         }
         let LinkRoom { links, taken } = room;
-        Ok(Mesh { nodes, root, links, taken })
+        Ok(Mesh {
+            nodes,
+            root,
+            links,
+            taken,
+        })
     }
 
     /// Whether no further link can join.

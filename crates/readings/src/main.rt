@@ -52,7 +52,10 @@ fn counted(line: &[u8]) -> (u32, &[u8]) {
         if *b == b' ' {
             return (count, &line[i + 1..]);
         }
-        count = count.wrapping_mul(10).wrapping_add(u32::from(*b)).wrapping_sub(48);
+        count = count
+            .wrapping_mul(10)
+            .wrapping_add(u32::from(*b))
+            .wrapping_sub(48);
     }
     (count, line)
 }
@@ -80,6 +83,7 @@ fn show(rt: &LibcRuntime, heap: Global, bytes: &[u8]) -> Result<(), AnyError> {
     let answer = Room::reserve(heap)?.read(bytes);
     let length = report_length(&answer);
     let mut text = vec![in heap; 0u8; length]?;
+    // The text fits: its length was asked for.
     let _ = report(&answer, &mut text);
     if length > WHOLE {
         let sum = sum_of(&text);

@@ -47,9 +47,9 @@ module _ (takes : ℕ → List ℕ → Type 0) (line : List ℕ) (fs : List (Lis
       inr (
         (fs, w, subst (λ a. takes k (getD fs a [])) (add-zero i) (h 0 (omega arith))),
         fields-fail o (i + 1) n (omega arith)
-          (λ j b. let z : i + suc j ≡ (i + 1) + j = omega arith in subst (λ a. takes (getD o j 0) (getD fs a [])) z (h (suc j) (omega arith)))
-          (λ t. let z : (i + 1) + n ≡ i + suc n = omega arith in no′ (subst (λ a. takes (getD o n 0) (getD fs a [])) z t))
-          m (omega arith),
+            (λ j b. let z : i + suc j ≡ (i + 1) + j = omega arith in subst (λ a. takes (getD o j 0) (getD fs a [])) z (h (suc j) (omega arith)))
+            (λ t. let z : (i + 1) + n ≡ i + suc n = omega arith in no′ (subst (λ a. takes (getD o n 0) (getD fs a [])) z t))
+            m (omega arith),
       )
 
 -- the first i fields are in their columns
@@ -72,9 +72,9 @@ module _ (takes : ℕ → List ℕ → Type 0) (n : ℕ) (o : List ℕ) (q : Ord
       record {
         long = ap length (p .is) ∙ length-set values k t ∙ s .long;
         put = λ j m. ap (λ v. getD v (getD o j 0) []) (p .is) ∙ ⊎-elim
-          (λ before. getD-set-other values k (getD o j 0) t [] (q .once j i before l) ∙ s .put j before)
-          (last (λ a. getD (set values k t) (getD o a 0) [] ≡ getD fs a []) (getD-set-same values k t [] in′ ∙ is) j m)
-          (cases-lt j i);
+            (λ before. getD-set-other values k (getD o j 0) t [] (q .once j i before l) ∙ s .put j before)
+            (last (λ a. getD (set values k t) (getD o a 0) [] ≡ getD fs a []) (getD-set-same values k t [] in′ ∙ is) j m)
+            (cases-lt j i);
         took = λ j m. ⊎-elim (s .took j) (last (λ a. takes (getD o a 0) (getD fs a [])) (subst (takes k) is took) j m) (cases-lt j i);
         fit = λ j m. ⊎-elim (λ before. p .others (getD o j 0) (q .once j i before l) (s .fit j before)) (last (λ a. fits′ (getD o a 0)) (p .here) j m) (cases-lt j i);
       }

@@ -35,9 +35,9 @@ pub row-passes : (takes : ℕ → List ℕ → Type 0) (o : List ℕ) (xs : List
 row-passes takes o xs line q some w holds e =
     let c = cut-of o xs line q some w e in
     fields-pass takes line (arranged o xs) (c .0) o 0 (λ j l.
-      let z : j ≡ 0 + j = omega arith in
-      let at = getD-map (λ k. getD xs k []) o j 0 [] l in
-      subst (λ a. takes (getD o j 0) (getD (arranged o xs) a [])) z (subst (takes (getD o j 0)) (sym at) (holds (getD o j 0) (all-getD (λ y. y < length xs) o j 0 l (q .below)))))
+    let z : j ≡ 0 + j = omega arith in
+    let at = getD-map (λ k. getD xs k []) o j 0 [] l in
+    subst (λ a. takes (getD o j 0) (getD (arranged o xs) a [])) z (subst (takes (getD o j 0)) (sym at) (holds (getD o j 0) (all-getD (λ y. y < length xs) o j 0 l (q .below)))))
 
 pub setting-holds : (h : Setting) → Setting-in-range h → (k : ℕ) → k < 5 → setting-takes k (getD (setting-values h) k [])
 setting-holds h r zero l = (h .nodes, record { is = refl; least = r .some; most = r .few })

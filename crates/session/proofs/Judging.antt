@@ -39,17 +39,32 @@ named ws vs o line (Err f) e c h = inr (c, inl (subst (λ us. In-order us line �
 -- The root is not below nodes: every field is taken, and the only settings that the line writes break the rule.
 pub root-fails : (o line : List ℕ) (h : Setting) (i : ℕ) → Order 5 o → Has-cut 5 line → Passes (field-checks setting-takes line 0 o) → Setting-line o line h → h .nodes ≤ h .root → i ≡ place-of 1 o → Fails (setting-checks o line) (BadField (i + 1))
 root-fails o line h i q c p w b e =
-    inr (c, fails-later (field-checks setting-takes line 0 o) _ _ p
-      (inl (λ (k, v, l). let s = setting-same o line k h q v w in omega (arith, ap (λ x. x .root) s, ap (λ x. x .nodes) s), ap (λ n. BadField (n + 1)) e)))
+    inr (
+      c,
+      fails-later (field-checks setting-takes line 0 o) _ _ p
+          (inl (λ (k, v, l). let s = setting-same o line k h q v w in omega (arith, ap (λ x. x .root) s, ap (λ x. x .nodes) s), ap (λ n. BadField (n + 1)) e)),
+    )
 
 -- A link that the mesh refuses: it had room and the numbers are in range, so the ends or the pair are at fault.
 pub link-fails : (o : List ℕ) (nodes : ℕ) (ls : List Link) (line : List ℕ) (l : Link) (e : LinkFault) → Order 4 o → nodes ≤ 64 → Has-cut 4 line → length ls < 512 → Passes (field-checks (link-takes nodes) line 0 o) → Link-line o nodes line l → Fails (link-checks nodes ls l) e → Fails (link-line-checks o nodes ls line) (BadLink e)
 link-fails o nodes ls line l e q few c room p w (inl full) = absurd (full .0 room)
 link-fails o nodes ls line l e q few c room p w (inr (_, inl out)) = absurd (out .0 (w .range))
 link-fails o nodes ls line l e q few c room p w (inr (_, inr (_, inl same))) =
-    inr (c, inr (room, fails-later (field-checks (link-takes nodes) line 0 o) _ _ p
-      (inl (λ (k, v, d). same .0 (subst Ends-differ (link-same o nodes line k l q few v w) d), ap (λ x. BadLink x) (same .1)))))
+    inr (
+      c,
+      inr (
+        room,
+        fails-later (field-checks (link-takes nodes) line 0 o) _ _ p
+            (inl (λ (k, v, d). same .0 (subst Ends-differ (link-same o nodes line k l q few v w) d), ap (λ x. BadLink x) (same .1))),
+      ),
+    )
 link-fails o nodes ls line l e q few c room p w (inr (_, inr (_, inr (d, inl pair)))) =
-    inr (c, inr (room, fails-later (field-checks (link-takes nodes) line 0 o) _ _ p
-      (inr ((l, w, d), inl (λ (k, v, f). pair .0 (subst (λ x. Joins ls (x .from) (x .to) → ⊥) (link-same o nodes line k l q few v w) f), ap (λ x. BadLink x) (pair .1))))))
+    inr (
+      c,
+      inr (
+        room,
+        fails-later (field-checks (link-takes nodes) line 0 o) _ _ p
+            (inr ((l, w, d), inl (λ (k, v, f). pair .0 (subst (λ x. Joins ls (x .from) (x .to) → ⊥) (link-same o nodes line k l q few v w) f), ap (λ x. BadLink x) (pair .1)))),
+      ),
+    )
 link-fails o nodes ls line l e q few c room p w (inr (_, inr (_, inr (_, inr (_, f))))) = absurd f

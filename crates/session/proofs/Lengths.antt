@@ -27,9 +27,9 @@ sum-all : (g : ℕ → ℕ) (n : ℕ) (xs : List ℕ) → Distinct xs → ((x : 
 sum-all g zero [] d b e = refl
 sum-all g zero (x ∷ xs) d b e = absurd (omega arith)
 sum-all g (suc n) xs d b e = elim (find n xs d) [
-    inl f ↦ absurd (omega (arith, pigeons n xs d (λ x h. let ne : x ≡ n → ⊥ = λ q. f (subst (λ y. List·Memᴰ y xs) q h) in omega (arith, b x h, ne))))
+  | inl f ↦ absurd (omega (arith, pigeons n xs d (λ x h. let ne : x ≡ n → ⊥ = λ q. f (subst (λ y. List·Memᴰ y xs) q h) in omega (arith, b x h, ne))))
   | inr r ↦ r .total g ∙ ap (λ s. g n + s) (sum-all g n (r .ys) (r .distinct) (λ x h. omega (arith, b x (r .within x h), r .apart x h)) (omega (arith, r .size)))
-  ]
+]
 
 sum-order : (g : ℕ → ℕ) (n : ℕ) (o p : List ℕ) → Order n o → Order n p → sum-over g o ≡ sum-over g p
 sum-order g n o p q r = sum-all g n o (distinct o (q .once)) (below n o q) (q .long) ∙ sym (sum-all g n p (distinct p (r .once)) (below n p r) (r .long))
@@ -88,11 +88,13 @@ two = record { long = refl; below = (omega arith, (omega arith, tt)); once = λ 
 -- A session's text has one length, in whatever order its columns stand.
 pub standard-length : (o p q : List ℕ) (c : Content) → Order 5 o → Order 4 p → Order 2 q → length (standard c) ≡ length (text o p q c)
 standard-length o p q c a b d =
-    omega (arith,
+    omega (
+      arith,
       length-append (setting-text o (c .setting) ++ links-text p (c .links)) (steps-text q (c .steps)),
       length-append (setting-text o (c .setting)) (links-text p (c .links)),
       length-append (setting-text (0 ∷ 1 ∷ 2 ∷ 3 ∷ 4 ∷ []) (c .setting) ++ links-text (0 ∷ 1 ∷ 2 ∷ 3 ∷ []) (c .links)) (steps-text (0 ∷ 1 ∷ []) (c .steps)),
       length-append (setting-text (0 ∷ 1 ∷ 2 ∷ 3 ∷ 4 ∷ []) (c .setting)) (links-text (0 ∷ 1 ∷ 2 ∷ 3 ∷ []) (c .links)),
       table-length 5 o (0 ∷ 1 ∷ 2 ∷ 3 ∷ 4 ∷ []) (names Settings) (setting-values (c .setting) ∷ []) (omega arith) a five,
       table-length 4 p (0 ∷ 1 ∷ 2 ∷ 3 ∷ []) (names Links) (map link-values (c .links)) (omega arith) b four,
-      table-length 2 q (0 ∷ 1 ∷ []) (names Steps) (map step-values (c .steps)) (omega arith) d two)
+      table-length 2 q (0 ∷ 1 ∷ []) (names Steps) (map step-values (c .steps)) (omega arith) d two,
+    )

@@ -23,17 +23,17 @@ use Rattle.session.proofs.Pigeons.{Distinct, pigeons}
 mem-has : (k : ℕ) (xs : List ℕ) → List·Memᴰ k xs → (i : ℕ) × (i < length xs) × (getD xs i 0 ≡ k)
 mem-has k [] h = absurd (List·Memᴰ·not-nil h)
 mem-has k (x ∷ xs) h = elim (List·Memᴰ·cases-cons h) [
-    inl e ↦ (0, omega arith, sym e)
+  | inl e ↦ (0, omega arith, sym e)
   | inr r ↦ let t = mem-has k xs r in (suc (t .0), omega (arith, t .1), t .2)
-  ]
+]
 
 mem-or : (k : ℕ) (xs : List ℕ) → List·Memᴰ k xs ⊎ (List·Memᴰ k xs → ⊥)
 mem-or k [] = inr List·Memᴰ·not-nil
 mem-or k (x ∷ xs) =
     let rest = mem-or k xs in
     elim (ℕ-discrete k x) [
-      yes e ↦ inl (List·Memᴰ·head e)
-    | no c ↦ elim rest [ inl h ↦ inl (List·Memᴰ·tail h) | inr g ↦ inr (λ h. elim (List·Memᴰ·cases-cons h) [ inl e ↦ c e | inr r ↦ g r ]) ]
+      | yes e ↦ inl (List·Memᴰ·head e)
+      | no c ↦ elim rest [ inl h ↦ inl (List·Memᴰ·tail h) | inr g ↦ inr (λ h. elim (List·Memᴰ·cases-cons h) [ inl e ↦ c e | inr r ↦ g r ]) ]
     ]
 
 abbrev Once : List ℕ → Type 0
@@ -51,12 +51,16 @@ below n o q x r = let t = mem-has x o r in subst (λ y. y < n) (t .2) (all-getD 
 
 pub each : (n : ℕ) (o : List ℕ) → Order n o → (k : ℕ) → k < n → (i : ℕ) × (i < length o) × (getD o i 0 ≡ k)
 each n o q k l = elim (mem-or k o) [
-    inl h ↦ mem-has k o h
-  | inr g ↦ absurd (omega (arith, q .long, pigeons n (k ∷ o) (g, distinct o (q .once)) (λ x h. elim (List·Memᴰ·cases-cons h) [
-        inl e ↦ subst (λ y. y < n) (sym e) l
+  | inl h ↦ mem-has k o h
+  | inr g ↦ absurd (omega (
+    arith,
+    q .long,
+    pigeons n (k ∷ o) (g, distinct o (q .once)) (λ x h. elim (List·Memᴰ·cases-cons h) [
+      | inl e ↦ subst (λ y. y < n) (sym e) l
       | inr r ↦ below n o q x r
-      ])))
-  ]
+    ]),
+  ))
+]
 
 -- the first i fields of fs are the words of the columns o
 pub record Sofar (ws fs : List (List ℕ)) (i : ℕ) (o : List ℕ) : Type 0 where
@@ -106,12 +110,12 @@ module _ (ws fs : List (List ℕ)) (i : ℕ) (o : List ℕ) (apart : Apart ws) (
       is = map-push (λ a. getD ws a []) o k ∙ ap (λ t. t ++ getD ws k [] ∷ []) (s .is) ∙ ap (λ t. take i fs ++ t ∷ []) word ∙ sym (take-more fs i [] in′);
       below = all-push (λ a. a < length ws) o k (s .below) lt;
       once = λ a b l m e.
-        let grown = length-push o k in
-        let first : getD (o ++ k ∷ []) a 0 ≡ getD o a 0 = getD-append-left o (k ∷ []) 0 a (omega arith) in
-        ⊎-elim
-        (λ inside. s .once a b l inside (sym first ∙ e ∙ getD-append-left o (k ∷ []) 0 b inside))
-        (λ last. let w : length o ≡ b = omega arith in new (subst (Has o) (sym first ∙ e ∙ getD-push o k 0 b w) (has-getD o a 0 (omega arith))))
-        (cases-lt b (length o));
+          let grown = length-push o k in
+          let first : getD (o ++ k ∷ []) a 0 ≡ getD o a 0 = getD-append-left o (k ∷ []) 0 a (omega arith) in
+          ⊎-elim
+          (λ inside. s .once a b l inside (sym first ∙ e ∙ getD-append-left o (k ∷ []) 0 b inside))
+          (λ last. let w : length o ≡ b = omega arith in new (subst (Has o) (sym first ∙ e ∙ getD-push o k 0 b w) (has-getD o a 0 (omega arith))))
+          (cases-lt b (length o));
     }
 
 pub done : (ws fs : List (List ℕ)) (i : ℕ) (o : List ℕ) → length fs ≡ length ws → length fs ≤ i → Sofar ws fs i o → Order (length ws) o × (fs ≡ arranged o ws)

@@ -31,18 +31,18 @@ find n [] d = inl List·Memᴰ·not-nil
 find n (x ∷ xs) (f, d) =
     let rest = find n xs d in
     elim (ℕ-discrete x n) [
-      yes e ↦ inr (record { ys = xs; size = refl; distinct = d; within = λ y h. List·Memᴰ·tail h; apart = λ y h q. f (Memᴰ·cast (e ∙ sym q) h); total = λ g. ap (λ y. g y + sum-over g xs) e })
-    | no c ↦ elim rest [
-          inl g ↦ inl (λ h. elim (List·Memᴰ·cases-cons h) [ inl e ↦ c (sym e) | inr r ↦ g r ])
+      | yes e ↦ inr (record { ys = xs; size = refl; distinct = d; within = λ y h. List·Memᴰ·tail h; apart = λ y h q. f (Memᴰ·cast (e ∙ sym q) h); total = λ g. ap (λ y. g y + sum-over g xs) e })
+      | no c ↦ elim rest [
+        | inl g ↦ inl (λ h. elim (List·Memᴰ·cases-cons h) [ inl e ↦ c (sym e) | inr r ↦ g r ])
         | inr r ↦ inr (record {
-              ys = x ∷ r .ys;
-              size = ap suc (r .size);
-              distinct = (λ h. f (r .within x h), r .distinct);
-              within = λ y h. elim (List·Memᴰ·cases-cons h) [ inl e ↦ List·Memᴰ·head e | inr k ↦ List·Memᴰ·tail (r .within y k) ];
-              apart = λ y h q. elim (List·Memᴰ·cases-cons h) [ inl e ↦ c (sym e ∙ q) | inr k ↦ r .apart y k q ];
-              total = λ g. let t = r .total g in omega arith;
-            })
-        ]
+          ys = x ∷ r .ys;
+          size = ap suc (r .size);
+          distinct = (λ h. f (r .within x h), r .distinct);
+          within = λ y h. elim (List·Memᴰ·cases-cons h) [ inl e ↦ List·Memᴰ·head e | inr k ↦ List·Memᴰ·tail (r .within y k) ];
+          apart = λ y h q. elim (List·Memᴰ·cases-cons h) [ inl e ↦ c (sym e ∙ q) | inr k ↦ r .apart y k q ];
+          total = λ g. let t = r .total g in omega arith;
+        })
+      ]
     ]
 
 -- Take out the greatest number that the bound allows, if it is there, and go on with a bound that is one less.
@@ -50,6 +50,6 @@ pub pigeons : (n : ℕ) (xs : List ℕ) → Distinct xs → ((x : ℕ) → List�
 pigeons zero [] d b = omega arith
 pigeons zero (x ∷ xs) d b = absurd (omega (arith, b x (List·Memᴰ·head refl)))
 pigeons (suc n) xs d b = elim (find n xs d) [
-      inl f ↦ omega (arith, pigeons n xs d (λ x h. let ne : x ≢ n = λ e. f (Memᴰ·cast (sym e) h) in omega (arith, b x h)))
-    | inr r ↦ omega (arith, r .size, pigeons n (r .ys) (r .distinct) (λ x h. omega (arith, b x (r .within x h), r .apart x h)))
-    ]
+  | inl f ↦ omega (arith, pigeons n xs d (λ x h. let ne : x ≢ n = λ e. f (Memᴰ·cast (sym e) h) in omega (arith, b x h)))
+  | inr r ↦ omega (arith, r .size, pigeons n (r .ys) (r .distinct) (λ x h. omega (arith, b x (r .within x h), r .apart x h)))
+]

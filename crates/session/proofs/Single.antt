@@ -49,9 +49,9 @@ order-same t o p line q r e f =
     let b = cut-of p ws line r (names-some t .0) (names-fields t) f in
     let g = fields-same line _ _ (a .0) (b .0) in
     ext-getD 0 o p (q .long ∙ sym (r .long)) (λ i l.
-      let m : i < length p = omega (arith, q .long, r .long) in
-      names-apart t (getD o i 0) (getD p i 0) (all-getD (λ k. k < length ws) o i 0 l (q .below)) (all-getD (λ k. k < length ws) p i 0 m (r .below))
-      (sym (getD-map (λ k. getD ws k []) o i 0 [] l) ∙ ap (λ x. getD x i []) g ∙ getD-map (λ k. getD ws k []) p i 0 [] m))
+    let m : i < length p = omega (arith, q .long, r .long) in
+    names-apart t (getD o i 0) (getD p i 0) (all-getD (λ k. k < length ws) o i 0 l (q .below)) (all-getD (λ k. k < length ws) p i 0 m (r .below))
+    (sym (getD-map (λ k. getD ws k []) o i 0 [] l) ∙ ap (λ x. getD x i []) g ∙ getD-map (λ k. getD ws k []) p i 0 [] m))
 
 -- the line leads from a place to the next
 abbrev Goes : Place → List ℕ → Place → Type 0
@@ -83,23 +83,28 @@ names-pass t o line q e = ((_, cut-of o (names t) line q (names-some t .0) (name
 -- A line that leads on passes all its checks.
 goes-pass : (a : Place) (line : List ℕ) (b : Place) → Goes a line b → Passes (line-checks a line)
 goes-pass at-setting-names line b (o, q, e, f) = names-pass Settings o line q e
-goes-pass (at-setting o) line b (h, q, k, e, f) =
-    ((_, cut-of o (setting-values h) line q (omega arith) (setting-fields h (k .range)) e),
-     passes-both (field-checks setting-takes line 0 o) _
-     (row-passes setting-takes o (setting-values h) line q (omega arith) (setting-fields h (k .range)) (setting-holds h (k .range)) e)
-     ((h, record { is = e; range = k .range }, k .rooted), tt))
+goes-pass (at-setting o) line b (h, q, k, e, f) = (
+  (_, cut-of o (setting-values h) line q (omega arith) (setting-fields h (k .range)) e),
+  passes-both (field-checks setting-takes line 0 o) _
+      (row-passes setting-takes o (setting-values h) line q (omega arith) (setting-fields h (k .range)) (setting-holds h (k .range)) e)
+      ((h, record { is = e; range = k .range }, k .rooted), tt),
+)
 goes-pass (at-link-names o h) line b (p, q, e, f) = names-pass Links p line q e
 goes-pass (at-links o h p ls) line b (inl (l, d, q, few, w, room, n, fresh, f)) =
-    subst Passes (link-line-at o h p ls line d)
-    ((_, cut-of p (link-values l) line q (omega arith) (link-fields (h .nodes) l few (w .range)) (w .is)),
-     (room,
-      passes-both (field-checks (link-takes (h .nodes)) line 0 p) _
-      (row-passes (link-takes (h .nodes)) p (link-values l) line q (omega arith) (link-fields (h .nodes) l few (w .range)) (link-holds (h .nodes) l (w .range)) (w .is))
-      ((l, w, n), ((l, w, fresh), tt))))
+    subst Passes (link-line-at o h p ls line d) (
+      (_, cut-of p (link-values l) line q (omega arith) (link-fields (h .nodes) l few (w .range)) (w .is)),
+      (
+        room,
+        passes-both (field-checks (link-takes (h .nodes)) line 0 p) _
+            (row-passes (link-takes (h .nodes)) p (link-values l) line q (omega arith) (link-fields (h .nodes) l few (w .range)) (link-holds (h .nodes) l (w .range)) (w .is))
+            ((l, w, n), ((l, w, fresh), tt)),
+      ),
+    )
 goes-pass (at-links o h p ls) line b (inr (r, d, q, e, f)) = subst Passes (names-line-at o h p ls line d) (names-pass Steps r line q e)
-goes-pass (at-steps o h p ls q ss) line b (s, r, k, e, f) =
-    ((_, cut-of q (step-values s) line r (omega arith) (step-fields s k) e),
-     row-passes step-takes q (step-values s) line r (omega arith) (step-fields s k) (step-holds s k) e)
+goes-pass (at-steps o h p ls q ss) line b (s, r, k, e, f) = (
+  (_, cut-of q (step-values s) line r (omega arith) (step-fields s k) e),
+  row-passes step-takes q (step-values s) line r (omega arith) (step-fields s k) (step-holds s k) e,
+)
 
 -- such a line has no line feed
 goes-unbroken : (a : Place) (line : List ℕ) (b : Place) → Goes a line b → Unbroken line
@@ -164,24 +169,28 @@ module _ (o : List ℕ) (h : Setting) (p : List ℕ) (q : Order 4 p) (few : h .n
       let in′ : length ls < length (ls ++ l ∷ ms) = omega arith in
       let w = subst (λ x. In-range (h .nodes) x × Ends-differ x) here (all-getD (λ x. In-range (h .nodes) x × Ends-differ x) (ls ++ l ∷ ms) (length ls) l in′ (k .each)) in
       let fresh : Joins ls (l .from) (l .to) → ⊥ = λ j.
-            let first : getD (ls ++ l ∷ ms) (j .0) l ≡ getD ls (j .0) l = getD-append-left ls (l ∷ ms) l (j .0) (j .1) in
-            let x = j .2 l in
-            k .once (j .0) (length ls) l (j .1, in′, (ap (λ y. y .from) first ∙ x .0 ∙ ap (λ y. y .from) (sym here), ap (λ y. y .to) first ∙ x .1 ∙ ap (λ y. y .to) (sym here))) in
+      let first : getD (ls ++ l ∷ ms) (j .0) l ≡ getD ls (j .0) l = getD-append-left ls (l ∷ ms) l (j .0) (j .1) in
+      let x = j .2 l in
+      k .once (j .0) (length ls) l (j .1, in′, (ap (λ y. y .from) first ∙ x .0 ∙ ap (λ y. y .from) (sym here), ap (λ y. y .to) first ∙ x .1 ∙ ap (λ y. y .to) (sym here))) in
       let line = spaced (arranged p (link-values l)) in
-      let r = link-hops (ls ++ l ∷ []) ms (subst (Links-kept (h .nodes)) (sym e) k) in
-      (record { line = line; to = at-links o h p (ls ++ l ∷ []) } ∷ r .0,
-       (inl (l, link-first p (h .nodes) l q few (w .0), q, few, record { is = refl; range = w .0 }, omega (arith, k .few), w .1, fresh, refl),
-        subst (λ x. Leads (at-links o h p (ls ++ l ∷ [])) (r .0) (at-links o h p x)) e (r .1)),
-       ap (λ t. line ++ 10 ∷ t) (r .2) ∙ sym (append-assoc line (10 ∷ []) (joined (row p) (map link-values ms))))
+      let r = link-hops (ls ++ l ∷ []) ms (subst (Links-kept (h .nodes)) (sym e) k) in (
+        record { line = line; to = at-links o h p (ls ++ l ∷ []) } ∷ r .0,
+        (
+          inl (l, link-first p (h .nodes) l q few (w .0), q, few, record { is = refl; range = w .0 }, omega (arith, k .few), w .1, fresh, refl),
+          subst (λ x. Leads (at-links o h p (ls ++ l ∷ [])) (r .0) (at-links o h p x)) e (r .1),
+        ),
+        ap (λ t. line ++ 10 ∷ t) (r .2) ∙ sym (append-assoc line (10 ∷ []) (joined (row p) (map link-values ms))),
+      )
 
   step-hops : (ls : List Link) (r : List ℕ) (ss ts : List Step) → Order 2 r → All (λ s. s .pick ≤ 65535) ts → (xs : List Hop) × Leads (at-steps o h p ls r ss) xs (at-steps o h p ls r (ss ++ ts)) × (hops-text xs ≡ joined (row r) (map step-values ts))
   step-hops ls r ss [] d k = ([], ap (at-steps o h p ls r) (append-nil ss), refl)
   step-hops ls r ss (t ∷ ts) d k =
       let line = spaced (arranged r (step-values t)) in
-      let x = step-hops ls r (ss ++ t ∷ []) ts d (k .1) in
-      (record { line = line; to = at-steps o h p ls r (ss ++ t ∷ []) } ∷ x .0,
-       ((t, d, k .0, refl, refl), subst (λ y. Leads (at-steps o h p ls r (ss ++ t ∷ [])) (x .0) (at-steps o h p ls r y)) (append-assoc ss (t ∷ []) ts) (x .1)),
-       ap (λ u. line ++ 10 ∷ u) (x .2) ∙ sym (append-assoc line (10 ∷ []) (joined (row r) (map step-values ts))))
+      let x = step-hops ls r (ss ++ t ∷ []) ts d (k .1) in (
+        record { line = line; to = at-steps o h p ls r (ss ++ t ∷ []) } ∷ x .0,
+        ((t, d, k .0, refl, refl), subst (λ y. Leads (at-steps o h p ls r (ss ++ t ∷ [])) (x .0) (at-steps o h p ls r y)) (append-assoc ss (t ∷ []) ts) (x .1)),
+        ap (λ u. line ++ 10 ∷ u) (x .2) ∙ sym (append-assoc line (10 ∷ []) (joined (row r) (map step-values ts))),
+      )
 
 -- what leads to a place from the start: lines whose text is the text before the place
 record Path (b : Place) : Type 0 where
@@ -213,7 +222,7 @@ path-link-names o h q k =
 path-links : (o : List ℕ) (h : Setting) (p : List ℕ) (ls : List Link) → Order 5 o → Setting-kept h → Order 4 p → Links-kept (h .nodes) ls → Path (at-links o h p ls)
 path-links o h p ls q k r m =
     let first = on (at-link-names o h) (at-links o h p []) (row p (names Links)) (path-link-names o h q k)
-          (record { line = spaced (arranged p (names Links)); to = at-links o h p [] } ∷ []) ((p, r, refl, refl), refl) refl (ap (λ t. setting-text o h ++ t) (append-nil (row p (names Links)))) in
+    (record { line = spaced (arranged p (names Links)); to = at-links o h p [] } ∷ []) ((p, r, refl, refl), refl) refl (ap (λ t. setting-text o h ++ t) (append-nil (row p (names Links)))) in
     let x = link-hops o h p r (k .range .few) [] ls m in
     on (at-links o h p []) (at-links o h p ls) (joined (row p) (map link-values ls)) first (x .0) (x .1) (x .2)
     (ap (λ t. setting-text o h ++ t) (ap (λ t. t ++ joined (row p) (map link-values ls)) (sym (append-nil (row p (names Links))))) ∙ sym (append-assoc (setting-text o h) (links-text p []) (joined (row p) (map link-values ls))))
@@ -226,7 +235,7 @@ path (at-links o h p ls) (q, k, r, m) = path-links o h p ls q k r m
 path (at-steps o h p ls r ss) (q, k, u, m, d, v) =
     let T = setting-text o h ++ links-text p ls in
     let first = on (at-links o h p ls) (at-steps o h p ls r []) (row r (names Steps)) (path-links o h p ls q k u m)
-          (record { line = spaced (arranged r (names Steps)); to = at-steps o h p ls r [] } ∷ []) (inr (r, names-first r d, d, refl, refl), refl) refl (ap (λ t. T ++ t) (append-nil (row r (names Steps)))) in
+    (record { line = spaced (arranged r (names Steps)); to = at-steps o h p ls r [] } ∷ []) (inr (r, names-first r d, d, refl, refl), refl) refl (ap (λ t. T ++ t) (append-nil (row r (names Steps)))) in
     let x = step-hops o h p u (k .range .few) ls r [] ss d v in
     on (at-steps o h p ls r []) (at-steps o h p ls r ss) (joined (row r) (map step-values ss)) first (x .0) (x .1) (x .2)
     (ap (λ t. T ++ t) (ap (λ t. t ++ joined (row r) (map step-values ss)) (sym (append-nil (row r (names Steps))))) ∙ sym (append-assoc T (steps-text r []) (joined (row r) (map step-values ss))))
@@ -282,25 +291,25 @@ end-not-refused o h p ls q ss f (inr (inr (line, after, k, is, b, g, x))) = omeg
 
 accepts-same : (bytes : List ℕ) (c d : Content) → Accepts bytes c → Accepts bytes d → c ≡ d
 accepts-same bytes c d v w = elim (meet bytes _ _ [] [] (whole bytes c v) (whole bytes d w)) [
-    inl e ↦ ap (λ x. so-far x c) (e .0)
+  | inl e ↦ ap (λ x. so-far x c) (e .0)
   | inr f ↦ absurd (elim f [ inl x ↦ end-not-further _ x | inr x ↦ end-not-further _ x ])
-  ]
+]
 
 accepts-not-refuses : (bytes : List ℕ) (c : Content) (f : ReadFault) → Accepts bytes c → Refuses bytes f → ⊥
 accepts-not-refuses bytes c f v (inl (long, e)) = omega (arith, whole bytes c v .short)
 accepts-not-refuses bytes c f v (inr (a, rest, u, w)) = elim (meet bytes _ a [] rest (whole bytes c v) u) [
-    inl e ↦ end-not-refused (v .0) (c .setting) (v .1) (c .links) (v .2) (c .steps) f (subst (λ r. Refused-at (at-steps (v .0) (c .setting) (v .1) (c .links) (v .2) (c .steps)) r f) (sym (e .1)) (subst (λ x. Refused-at x rest f) (sym (e .0)) w))
+  | inl e ↦ end-not-refused (v .0) (c .setting) (v .1) (c .links) (v .2) (c .steps) f (subst (λ r. Refused-at (at-steps (v .0) (c .setting) (v .1) (c .links) (v .2) (c .steps)) r f) (sym (e .1)) (subst (λ x. Refused-at x rest f) (sym (e .0)) w))
   | inr g ↦ elim g [ inl x ↦ end-not-further _ x | inr x ↦ goes-on a rest f x w ]
-  ]
+]
 
 refuses-same : (bytes : List ℕ) (f g : ReadFault) → Refuses bytes f → Refuses bytes g → f ≡ g
 refuses-same bytes f g (inl (l, x)) (inl (m, y)) = x ∙ sym y
 refuses-same bytes f g (inl (l, x)) (inr (b, s, v, z)) = absurd (omega (arith, v .short))
 refuses-same bytes f g (inr (a, r, u, w)) (inl (m, y)) = absurd (omega (arith, u .short))
 refuses-same bytes f g (inr (a, r, u, w)) (inr (b, s, v, z)) = elim (meet bytes a b r s u v) [
-    inl e ↦ refused-same a r f g w (subst (λ t. Refused-at a t g) (sym (e .1)) (subst (λ x. Refused-at x s g) (sym (e .0)) z))
+  | inl e ↦ refused-same a r f g w (subst (λ t. Refused-at a t g) (sym (e .1)) (subst (λ x. Refused-at x s g) (sym (e .0)) z))
   | inr h ↦ absurd (elim h [ inl x ↦ goes-on a r f x w | inr x ↦ goes-on b s g x z ])
-  ]
+]
 
 one : (bytes : List ℕ) (j k : Judgement) → Judges bytes j → Judges bytes k → k ≡ j
 one bytes (accepted c) (accepted d) v w = ap accepted (accepts-same bytes d c w v)

@@ -47,12 +47,12 @@ fields-unbroken line fs w = subst Unbroken (sym (w .is)) (spaced-unbroken fs (w 
 pub line-or-none : (t : List ℕ) → Unbroken t ⊎ ((line : List ℕ) × (after : List ℕ) × (t ≡ line ++ 10 ∷ after) × Unbroken line)
 line-or-none [] = inl tt
 line-or-none (b ∷ t) = elim (ℕ-discrete b 10) [
-    yes e ↦ inr ([], t, ap (λ c. c ∷ t) e, tt)
+  | yes e ↦ inr ([], t, ap (λ c. c ∷ t) e, tt)
   | no c ↦ elim (line-or-none t) [
-        inl u ↦ inl (c, u)
-      | inr r ↦ inr (b ∷ r .0, r .1, ap (λ x. b ∷ x) (r .2), (c, r .3))
-      ]
+    | inl u ↦ inl (c, u)
+    | inr r ↦ inr (b ∷ r .0, r .1, ap (λ x. b ∷ x) (r .2), (c, r .3))
   ]
+]
 
 -- A line that is not made of fields fails the first check of any place.
 layout-fails : (p : Place) (line : List ℕ) → ((fs : List (List ℕ)) → Fields line fs → ⊥) → Fails (line-checks p line) Layout
@@ -61,8 +61,8 @@ layout-fails (at-setting o) line h = inl (λ c. h (c .0) (c .1 .0), refl)
 layout-fails (at-link-names o k) line h = inl (λ c. h (c .0) (c .1 .0), refl)
 layout-fails (at-links o k p ls) line h =
     elim (digit-first line) as (λ b. Fails (cond b (link-line-checks p (k .nodes) ls line) (names-checks (names Steps) line)) Layout) [
-      true ↦ inl (λ c. h (c .0) (c .1 .0), refl)
-    | false ↦ inl (λ c. h (c .0) (c .1 .0), refl)
+      | true ↦ inl (λ c. h (c .0) (c .1 .0), refl)
+      | false ↦ inl (λ c. h (c .0) (c .1 .0), refl)
     ]
 layout-fails (at-steps o k p ls q ss) line h = inl (λ c. h (c .0) (c .1 .0), refl)
 
@@ -75,9 +75,9 @@ pub refuse-next : (bytes : List ℕ) (p : Place) (rest : List ℕ) (k : ℕ) (f 
 refuse-next bytes p rest k f u m n (inl (e, g)) =
     inr (p, rest, u, inl (e, elim m [ inl h ↦ h | inr h ↦ absurd (omega (arith, ap length e)) ], g ∙ ap (λ i. Missing i) n))
 refuse-next bytes p rest k f u m n (inr (some, none, g)) = elim (line-or-none rest) [
-    inl b ↦ inr (p, rest, u, inr (inl (some, b, g ∙ ap (λ i. Line i Layout) n)))
+  | inl b ↦ inr (p, rest, u, inr (inl (some, b, g ∙ ap (λ i. Line i Layout) n)))
   | inr r ↦ inr (p, rest, u, inr (inr (r .0, r .1, Layout, r .2, r .3, layout-fails p (r .0) (λ fs w. none (r .0) (r .1) fs (r .2) w), g ∙ ap (λ i. Line i Layout) n)))
-  ]
+]
 
 -- the text before the next line, with that line
 grown : (bytes B rest line s after : List ℕ) → bytes ≡ B ++ rest → rest ≡ line ++ 10 ∷ after → line ≡ s → bytes ≡ (B ++ (s ++ 10 ∷ [])) ++ after
@@ -107,14 +107,19 @@ module _ (bytes rest line after : List ℕ) (is : rest ≡ line ++ 10 ∷ after)
       let k = u .sound .3 in
       record {
         short = u .short;
-        sound = (u .sound .0, u .sound .1, u .sound .2, record {
-          few = omega (arith, length-push ls l);
-          each = all-push (λ x. In-range (h .nodes) x × Ends-differ x) ls l (k .each) (w .range, d);
-          once = once-push ls l (k .once) fresh;
-        });
+        sound = (
+          u .sound .0,
+          u .sound .1,
+          u .sound .2,
+          record {
+            few = omega (arith, length-push ls l);
+            each = all-push (λ x. In-range (h .nodes) x × Ends-differ x) ls l (k .each) (w .range, d);
+            once = once-push ls l (k .once) fresh;
+          },
+        );
         is =
-          grown bytes (setting-text o h ++ links-text p ls) rest line _ after (u .is) is (w .is)
-          ∙ ap (λ t. t ++ after) (append-assoc (setting-text o h) (links-text p ls) (row p (link-values l))
+            grown bytes (setting-text o h ++ links-text p ls) rest line _ after (u .is) is (w .is)
+            ∙ ap (λ t. t ++ after) (append-assoc (setting-text o h) (links-text p ls) (row p (link-values l))
             ∙ ap (λ t. setting-text o h ++ t) (joined-more (row p) (row p (names Links)) (map link-values ls) (link-values l) ∙ ap (λ t. row p (names Links) ++ joined (row p) t) (sym (map-push link-values ls l))));
       }
 
@@ -130,8 +135,8 @@ module _ (bytes rest line after : List ℕ) (is : rest ≡ line ++ 10 ∷ after)
     short = u .short;
     sound = (u .sound .0, u .sound .1, u .sound .2, u .sound .3, u .sound .4, all-push (λ x. x .pick ≤ 65535) ss s (u .sound .5) k);
     is =
-      grown bytes ((setting-text o h ++ links-text p ls) ++ steps-text q ss) rest line _ after (u .is) is e
-      ∙ ap (λ t. t ++ after) (append-assoc (setting-text o h ++ links-text p ls) (steps-text q ss) (row q (step-values s))
+        grown bytes ((setting-text o h ++ links-text p ls) ++ steps-text q ss) rest line _ after (u .is) is e
+        ∙ ap (λ t. t ++ after) (append-assoc (setting-text o h ++ links-text p ls) (steps-text q ss) (row q (step-values s))
         ∙ ap (λ t. (setting-text o h ++ links-text p ls) ++ t) (joined-more (row q) (row q (names Steps)) (map step-values ss) (step-values s) ∙ ap (λ t. row q (names Steps) ++ joined (row q) t) (sym (map-push step-values ss s))));
   }
 

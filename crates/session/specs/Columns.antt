@@ -26,7 +26,7 @@ row o xs = spaced (arranged o xs) ++ 10 ∷ []
 abbrev pub table : List ℕ → List (List ℕ) → List (List (List ℕ)) → List ℕ
 table o names rows = row o names ++ joined (row o) rows
 
--- field i of the line, from 0, holds what column k takes
+-- field i of the line, from 0, holds what column k takes (a line has one cut into fields, so `some cut` is the cut)
 abbrev pub Field-takes : (ℕ → List ℕ → Type 0) → List ℕ → ℕ → ℕ → Type 0
 Field-takes takes line i k = (fs : List (List ℕ)) × Fields line fs × takes k (getD fs i [])
 

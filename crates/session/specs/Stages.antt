@@ -1,4 +1,5 @@
--- What the stages of the reader do, whatever stands before the part that each of them reads.
+-- What the stages of the reader do, whatever stands before the part that each of them reads: a stage sees only what is
+-- left of the file, so it speaks of every file that comes to its place with that rest.
 use mathlib.Core.Path.{_≡_}
 use mathlib.Core.List.{List, [], _∷_, _++_}
 use mathlib.Core.Logic.{_⊎_}

@@ -38,7 +38,7 @@ abbrev pub field-checks : (ℕ → List ℕ → Type 0) → List ℕ → ℕ →
 field-checks takes line i [] = []
 field-checks takes line i (k ∷ o) = check (BadField (i + 1)) (Field-takes takes line i k) ∷ field-checks takes line (i + 1) o
 
--- the place of k in o, from 0
+-- the place of k in o, from 0; the length of o where k is not in it
 abbrev pub place-of : ℕ → List ℕ → ℕ
 place-of k [] = 0
 place-of k (j ∷ o) = cond (eqb j k) 0 (suc (place-of k o))
@@ -48,7 +48,8 @@ pub record Setting-line (o line : List ℕ) (h : Setting) : Type 0 where
   pub is : line ≡ spaced (arranged o (setting-values h))
   pub range : Setting-in-range h
 
--- the checks of the line of the settings: the root's column is number 1
+-- the checks of the line of the settings: the root's column is number 1. A line writes one row at most, so `some
+-- settings that the line writes` are the settings that it writes; the same of links below.
 abbrev pub setting-checks : List ℕ → List ℕ → List (Check LineFault)
 setting-checks o line =
     check Layout ((fs : List (List ℕ)) × Cut 5 line fs)
@@ -79,7 +80,8 @@ abbrev pub digit-first : List ℕ → Bool
 digit-first [] = false
 digit-first (b ∷ t) = leb 48 b && leb b 57
 
--- a place before a line, with what was read so far: the order of columns and the rows of each table
+-- A place before a line, with what was read so far: of the first table the order of its columns and the settings, of
+-- the second the order of its columns and the links, of the third the order of its columns and the steps.
 pub data Place : Type 0 where
   at-setting-names : Place
   at-setting : List ℕ → Place

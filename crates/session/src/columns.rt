@@ -14,11 +14,11 @@ ghost use Rattle.vocab.specs.Words.{names};
 ghost use Rattle.session.specs.Filling.{Filled, Found, Apart};
 ghost use Rattle.session.specs.Verdict.{names-checks, field-checks, place-of};
 ghost use Rattle.session.specs.Placed.{placed-field};
-use vocab::faults::LineFault;
-use vocab::kinds::Table;
 use crate::rows::Row;
 use text::cut::first_field;
 use text::number::FieldFault;
+use vocab::faults::LineFault;
+use vocab::kinds::Table;
 
 /// Refuses a line that has another number of fields than `n`.
 pub fn has_fields(count: usize, line: &[u8], n: usize) -> Result<(), LineFault>
@@ -79,7 +79,12 @@ fn order_of(words: &[&[u8]], line: &[u8], order: &mut Vec<usize>) -> Result<(), 
 }
 
 /// Reads a line of a table's names into the order of its columns.
-pub fn names_line(table: Table, count: usize, line: &[u8], order: &mut Vec<usize>) -> Result<(), LineFault>
+pub fn names_line(
+    table: Table,
+    count: usize,
+    line: &[u8],
+    order: &mut Vec<usize>,
+) -> Result<(), LineFault>
     requires { ⌜ 5 ≤ vec-cap (now order) ⌝ ∗ ⌜ ((fs : List (List ℕ)) × Cut count (now line) fs) ⌝ }
     ensures room { λ _. ⌜ vec-cap (now (order .exit)) ≡ vec-cap (now (order .entry)) ⌝ }
     ensures reads { λ r. ⌜ Cases r (λ _. Order (length (names table)) (vec-items (now (order .exit))) × (now (line .entry) ≡ spaced (arranged (vec-items (now (order .exit))) (names table)))) (Fails (names-checks (names table) (now (line .entry)))) ⌝ }

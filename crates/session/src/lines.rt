@@ -16,6 +16,13 @@ ghost use Rattle.session.specs.Verdict.{setting-checks, link-line-checks, step
 use crate::columns::fill;
 use crate::columns::has_fields;
 use crate::columns::place;
+use crate::rows::LinkRow;
+use crate::rows::LinkRowRow;
+use crate::rows::SettingRow;
+use crate::rows::StepRow;
+use mesh::link::Link;
+use mesh::link::LinkFault;
+use mesh::mesh::Mesh;
 use vocab::faults::LineFault;
 use vocab::faults::LineFaultFromLink;
 use vocab::kinds::Action;
@@ -24,13 +31,6 @@ use vocab::kinds::Detector;
 use vocab::kinds::Kind;
 use vocab::kinds::Setting;
 use vocab::kinds::Step;
-use crate::rows::LinkRow;
-use crate::rows::LinkRowRow;
-use crate::rows::SettingRow;
-use crate::rows::StepRow;
-use mesh::link::Link;
-use mesh::link::LinkFault;
-use mesh::mesh::Mesh;
 
 // The column of the root among the settings.
 const ROOT: usize = 1;
@@ -41,7 +41,13 @@ pub fn setting_line(order: &[usize], count: usize, line: &[u8]) -> Result<Settin
     ensures { λ r. ⌜ Cases r (λ h. Setting-kept h × (now (line .entry) ≡ spaced (arranged (now (order .entry)) (setting-values h)))) (Fails (setting-checks (now (order .entry)) (now (line .entry)))) ⌝ }
 {
     has_fields(count, line, order.len())?;
-    let mut setting = Setting { nodes: 1, root: 0, kind: Kind::Cost, detector: Detector::Tree, channel: Channel::Queue };
+    let mut setting = Setting {
+        nodes: 1,
+        root: 0,
+        kind: Kind::Cost,
+        detector: Detector::Tree,
+        channel: Channel::Queue,
+    };
     fill(&mut setting, order, line)?;
     if setting.root >= setting.nodes {
         return Err(LineFault::BadField(place(order, ROOT) + 1));
@@ -50,17 +56,30 @@ pub fn setting_line(order: &[usize], count: usize, line: &[u8]) -> Result<Settin
 }
 
 /// Adds the link that a line writes to the mesh.
-pub fn link_line(mesh: &mut Mesh, order: &[usize], count: usize, line: &[u8]) -> Result<(), LineFault>
+pub fn link_line(
+    mesh: &mut Mesh,
+    order: &[usize],
+    count: usize,
+    line: &[u8],
+) -> Result<(), LineFault>
     requires { ⌜ Order 4 (now order) ⌝ ∗ ⌜ ((fs : List (List ℕ)) × Cut count (now line) fs) ⌝ }
     ensures nodes { λ _. ⌜ now (mesh .exit) .nodes ≡ now (mesh .entry) .nodes ⌝ }
     ensures root { λ _. ⌜ now (mesh .exit) .root ≡ now (mesh .entry) .root ⌝ }
-    ensures joins { λ r. ⌜ Cases r (λ _. ((l : ALink) × Link-line (now (order .entry)) (now (mesh .entry) .nodes) (now (line .entry)) l × (length (vec-items (now (mesh .entry) .links)) < 512) × Ends-differ l × (Joins (vec-items (now (mesh .entry) .links)) (l .from) (l .to) → ⊥) × (vec-items (now (mesh .exit) .links) ≡ vec-items (now (mesh .entry) .links) ++ l ∷ []))) (Fails (link-line-checks (now (order .entry)) (now (mesh .entry) .nodes) (vec-items (now (mesh .entry) .links)) (now (line .entry)))) ⌝ }
+    ensures joins { λ r. ⌜ Cases r (λ _. ((l : ALink) × Link-line (now (order .entry)) (now (mesh .entry) .nodes) (now (line .entry)) l × (length (vec-items (now (mesh .entry) .links)) < 512) × Ends-differ l × (Joins (vec-items (now (mesh .entry) .links)) (l .from) (l .to) → ⊥) × (vec-items (now (mesh .exit) .links) ≡ vec-items (now (mesh .entry) .links) ++ l ∷ []))) (λ e. Fails (link-line-checks (now (order .entry)) (now (mesh .entry) .nodes) (vec-items (now (mesh .entry) .links)) (now (line .entry))) e × (vec-items (now (mesh .exit) .links) ≡ vec-items (now (mesh .entry) .links))) ⌝ }
 {
     has_fields(count, line, order.len())?;
     if mesh.is_full() {
         return Err(LineFault::BadLink(LinkFault::TooMany));
     }
-    let mut row = LinkRow { nodes: mesh.nodes, link: Link { from: 0, to: 0, cost: 0, width: 1 } };
+    let mut row = LinkRow {
+        nodes: mesh.nodes,
+        link: Link {
+            from: 0,
+            to: 0,
+            cost: 0,
+            width: 1,
+        },
+    };
     fill(&mut row, order, line)?;
     mesh.join(row.link)?;
     Ok(())
@@ -72,7 +91,10 @@ pub fn step_line(order: &[usize], count: usize, line: &[u8]) -> Result<Step, Lin
     ensures { λ r. ⌜ Cases r (λ s. (s .pick ≤ 65535) × (now (line .entry) ≡ spaced (arranged (now (order .entry)) (step-values s)))) (Fails (step-checks (now (order .entry)) (now (line .entry)))) ⌝ }
 {
     has_fields(count, line, order.len())?;
-    let mut step = Step { action: Action::Deliver, pick: 0 };
+    let mut step = Step {
+        action: Action::Deliver,
+        pick: 0,
+    };
     fill(&mut step, order, line)?;
     Ok(step)
 }

@@ -11,16 +11,9 @@ ghost use Rattle.session.specs.Columns.{Order};
 ghost use Rattle.session.specs.Placed.{placed-line};
 ghost use Rattle.session.specs.Stages.{Next-line, Link-names-read, Link-names-refused, Links-read, Links-refused, Steps-read, Steps-refused};
 ghost use Rattle.session.specs.Verdict.{Up-to, Refuses, digit-first, at-link-names, Judged};
-ghost use Rattle.session.specs.Seen.{judgement, Answers};
+ghost use Rattle.session.specs.Content.{standard};
+ghost use Rattle.session.specs.Seen.{content, judgement, Answers};
 use crate::columns::names_line;
-use vocab::faults::LineFault;
-use vocab::faults::ReadError;
-use vocab::faults::ReadErrorFromAlloc;
-use vocab::faults::ReadErrorFromFault;
-use vocab::faults::ReadFault;
-use vocab::kinds::Setting;
-use vocab::kinds::Step;
-use vocab::kinds::Table;
 use crate::lines::link_line;
 use crate::lines::setting_line;
 use crate::lines::step_line;
@@ -31,6 +24,14 @@ use mesh::mesh::Mesh;
 use std::alloc::AllocError;
 use std::alloc::Global;
 use text::cut::first_line;
+use vocab::faults::LineFault;
+use vocab::faults::ReadError;
+use vocab::faults::ReadErrorFromAlloc;
+use vocab::faults::ReadErrorFromFault;
+use vocab::faults::ReadFault;
+use vocab::kinds::Setting;
+use vocab::kinds::Step;
+use vocab::kinds::Table;
 
 /// The most bytes a session file may have.
 pub const MAX_BYTES: usize = 65536;
@@ -59,7 +60,10 @@ fn next_line(number: usize, rest: &[u8]) -> Result<(usize, &[u8], &[u8]), ReadFa
 }
 
 // The settings, and what follows their table.
-fn setting_table<'a>(columns: &mut Vec<usize>, bytes: &'a [u8]) -> Result<(Setting, &'a [u8]), ReadFault>
+fn setting_table<'a>(
+    columns: &mut Vec<usize>,
+    bytes: &'a [u8],
+) -> Result<(Setting, &'a [u8]), ReadFault>
     requires { ⌜ 5 ≤ vec-cap (now columns) ⌝ ∗ ⌜ length (now bytes) ≤ 65536 ⌝ }
     ensures room { λ _. ⌜ vec-cap (now (columns .exit)) ≡ vec-cap (now (columns .entry)) ⌝ }
     ensures reads { λ r. ⌜ Cases r (λ x. ((o : List ℕ) × Up-to (now (bytes .entry)) (at-link-names o (x .0)) (now (x .1)))) (Refuses (now (bytes .entry))) ⌝ }
@@ -94,7 +98,11 @@ fn is_link_line(line: &[u8]) -> bool
 }
 
 // Reads the link lines into the mesh, and answers the line after them, with its number of fields, and what follows it.
-fn link_table<'a>(order: &[usize], mesh: &mut Mesh, text: &'a [u8]) -> Result<(usize, &'a [u8], &'a [u8]), ReadFault>
+fn link_table<'a>(
+    order: &[usize],
+    mesh: &mut Mesh,
+    text: &'a [u8],
+) -> Result<(usize, &'a [u8], &'a [u8]), ReadFault>
     requires { ⌜ Order 4 (now order) ⌝ ∗ ⌜ vec-items (now mesh .links) ≡ [] ⌝ }
     ensures nodes { λ _. ⌜ now (mesh .exit) .nodes ≡ now (mesh .entry) .nodes ⌝ }
     ensures root { λ _. ⌜ now (mesh .exit) .root ≡ now (mesh .entry) .root ⌝ }
@@ -113,7 +121,12 @@ fn link_table<'a>(order: &[usize], mesh: &mut Mesh, text: &'a [u8]) -> Result<(u
 }
 
 // Reads the step lines, the first of which has this number.
-fn step_table(order: &[usize], first: usize, steps: &mut Vec<Step>, text: &[u8]) -> Result<(), ReadFault>
+fn step_table(
+    order: &[usize],
+    first: usize,
+    steps: &mut Vec<Step>,
+    text: &[u8],
+) -> Result<(), ReadFault>
     requires { ⌜ Order 2 (now order) ⌝ ∗ ⌜ first ≤ 65536 ⌝ ∗ ⌜ vec-len (now steps) ≡ 0 ⌝ }
     requires { ⌜ length (now text) ≤ 65536 ⌝ ∗ ⌜ 16384 ≤ vec-cap (now steps) ⌝ }
     ensures reads { λ r. ⌜ Cases r (λ _. Steps-read (now (order .entry)) (now (text .entry)) (vec-items (now (steps .exit)))) (Steps-refused (now (order .entry)) first (now (text .entry))) ⌝ }
@@ -129,10 +142,10 @@ fn step_table(order: &[usize], first: usize, steps: &mut Vec<Step>, text: &[u8])
     Ok(())
 }
 
-/// The most steps a session file can hold: a step line has four bytes at the least.
+// As many steps as a session file can hold: a line of two fields has four bytes at the least.
 const MAX_STEPS: usize = 16384;
 
-/// The most columns a table has.
+// The most columns a table has.
 const MAX_COLUMNS: usize = 5;
 
 impl Room {
@@ -143,17 +156,27 @@ impl Room {
         let links = LinkRoom::reserve(heap)?;
         let steps = Vec::with_capacity(heap, MAX_STEPS)?;
         let columns = Vec::with_capacity(heap, MAX_COLUMNS)?;
-        Ok(Room { links, steps, columns })
+        Ok(Room {
+            links,
+            steps,
+            columns,
+        })
     }
 
     /// Reads a session file: the session that it writes, or the first check that it fails.
+    /// In the standard order the session's text is as long as the file.
     pub fn read(self, bytes: &[u8]) -> Result<Session, ReadFault>
-        ensures { λ r. ⌜ Judged (now (bytes .entry)) (judgement r) ⌝ }
+        ensures judged { λ r. ⌜ Judged (now (bytes .entry)) (judgement r) ⌝ }
+        ensures sized { λ r. ⌜ Cases r (λ s. length (standard (content s)) ≡ length (now (bytes .entry))) (λ _. Unit {0}) ⌝ }
     {
         if bytes.len() > MAX_BYTES {
             return Err(ReadFault::TooLong);
         }
-        let Room { links, mut steps, mut columns } = self;
+        let Room {
+            links,
+            mut steps,
+            mut columns,
+        } = self;
         let (setting, names_text) = setting_table(&mut columns, bytes)?;
         let links_text = link_names(&mut columns, names_text)?;
         let mut mesh = match Mesh::open(links, setting.nodes, setting.root) {
@@ -164,7 +187,13 @@ impl Room {
         let number = 4 + mesh.links.len();
         at_line(number, names_line(Table::Steps, count, line, &mut columns))?;
         step_table(&columns, number + 1, &mut steps, steps_text)?;
-        Ok(Session { mesh, kind: setting.kind, detector: setting.detector, channel: setting.channel, steps })
+        Ok(Session {
+            mesh,
+            kind: setting.kind,
+            detector: setting.detector,
+            channel: setting.channel,
+            steps,
+        })
     }
 }
 

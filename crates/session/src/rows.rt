@@ -6,15 +6,15 @@ ghost use denote.Ref.{now};
 ghost use Rattle.std.specs.Results.{Cases};
 ghost use Rattle.session.specs.Tables.{setting-values, link-values, step-values, setting-takes, link-takes, step-takes};
 ghost use Rattle.session.specs.Filling.{Put-at, setting-fits, link-fits, step-fits};
+use mesh::link::Link;
+use text::number::FieldFault;
+use text::number::number;
 use vocab::kinds::Setting;
 use vocab::kinds::Step;
 use vocab::words::action_of;
 use vocab::words::channel_of;
 use vocab::words::detector_of;
 use vocab::words::kind_of;
-use mesh::link::Link;
-use text::number::FieldFault;
-use text::number::number;
 
 /// What a line of a table holds, column by column.
 pub trait Row {

@@ -5,14 +5,15 @@ ghost use lib.ListN.{length, getD};
 ghost use Rattle.std.specs.Of.Vec.{vec-len, vec-cap, vec-items};
 ghost use Rattle.vocab.specs.declared.kinds.Step.{Step as AStep};
 ghost use Rattle.session.specs.Content.{standard};
+use mesh::mesh::LinkRoom;
+use mesh::mesh::Mesh;
 use vocab::kinds::Channel;
 use vocab::kinds::Detector;
 use vocab::kinds::Kind;
 use vocab::kinds::Step;
-use mesh::mesh::LinkRoom;
-use mesh::mesh::Mesh;
 
 /// An accepted session: a value of this type keeps all the rules of a session file, its length included.
+// `short` writes out the content of the session, since the definition `content` names this type.
 #[derive(Drop)]
 pub struct Session {
     pub mesh: Mesh,

@@ -60,8 +60,8 @@ length-spelled zero n acc = omega arith
 length-spelled (suc k) n acc =
     let acc′ = glyph false (n % 10) ∷ acc in
     elim (eqb (n / 10) 0) as (λ b. length (cond b acc′ (spelled k 10 false (n / 10) acc′)) ≤ suc k + length acc) [
-      true ↦ omega arith
-    | false ↦ let h = length-spelled k (n / 10) acc′ in omega arith
+      | true ↦ omega arith
+      | false ↦ let h = length-spelled k (n / 10) acc′ in omega arith
     ]
 
 length-decimal : (n : ℕ) → length (decimal n) ≤ 64

@@ -10,16 +10,19 @@ ghost use Rattle.session.specs.Content.{standard, setting-text};
 ghost use Rattle.session.specs.Seen.{content};
 ghost use Rattle.standard.specs.Report.{fault-text};
 use mesh::link::Link;
-use vocab::faults::ReadFault;
-use vocab::kinds::Step;
 use session::session::Session;
 use text::output::put_byte;
 use text::output::put_bytes;
 use text::output::put_number;
+use vocab::faults::ReadFault;
+use vocab::kinds::Step;
 
 const SETTING_NAMES: &[u8] = b"nodes root kind detector channel\n";
+
 const LINK_NAMES: &[u8] = b"from to cost width\n";
+
 const STEP_NAMES: &[u8] = b"step pick\n";
+
 const FAULT_NAMES: &[u8] = b"fault layer line field\n";
 
 // A number and the byte after it.

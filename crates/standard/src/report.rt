@@ -8,8 +8,8 @@ ghost use Rattle.session.specs.Verdict.{Judged, accepted};
 ghost use Rattle.standard.specs.Report.{Written, report-text};
 use crate::parts::put_fault;
 use crate::parts::put_session;
-use vocab::faults::ReadFault;
 use session::session::Session;
+use vocab::faults::ReadFault;
 
 /// The length of a session's text.
 pub fn session_length(session: &Session) -> usize

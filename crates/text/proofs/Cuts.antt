@@ -162,7 +162,6 @@ first-of f (g ∷ fs) front rest w (m, inr (b, p, e)) =
     let r = same-cut Mark front f b 32 rest (spaced (g ∷ fs)) m (w .0 .1) p no-space (sym e) in
     (r .0, r .2)
 
-
 -- What `span` found from place at of the text on: the next n bytes, which a field may hold, and no more.
 pub record Reach (text : List ℕ) (at n : ℕ) : Type 0 where
   pub inside : at ≤ length text

@@ -47,8 +47,8 @@ module _ (low high : ℕ) (text : List ℕ) (h : high < 2 ^ 16) where
       ⊎-elim
       (λ none. ap length (w .is ∙ ap decimal none ∙ decimal-digit 0 (omega arith)))
       (λ some. absurd (⊎-elim
-        (λ lt. omega arith)
-        (λ lt. omega (arith, z, ap (λ t. getD t 0 0) (w .is), first-decimal n lt (omega (arith, w .most)))) some))
+      (λ lt. omega arith)
+      (λ lt. omega (arith, z, ap (λ t. getD t 0 0) (w .is), first-decimal n lt (omega (arith, w .most)))) some))
       (cases-order n 0)
 
   -- the digits so far, which are all

@@ -25,8 +25,8 @@ then {old} {mid} {new} {at} {end} {last} {s} {t} v w =
     record {
       place = λ h. let a = v .place (omega arith) in w .place (omega arith) ∙ ap (λ k. k + length t) a ∙ add-assoc at (length s) (length t) ∙ ap (λ k. at + k) (sym n);
       after = λ h.
-        let a = v .place (omega arith) in
-        w .after (omega arith) ∙ ap (λ x. stamped x end t) (v .after (omega arith)) ∙ ap (λ k. stamped (stamped old at s) k t) a ∙ stamped-on old at s t;
+          let a = v .place (omega arith) in
+          w .after (omega arith) ∙ ap (λ x. stamped x end t) (v .after (omega arith)) ∙ ap (λ k. stamped (stamped old at s) k t) a ∙ stamped-on old at s t;
     }
 
 pub one : (old : List ℕ) (at b : ℕ) → Puts old at (b ∷ []) (set old at b) (at + 1)

@@ -7,6 +7,7 @@ ghost use Rattle.text.specs.Lines.{Mark, Parted, First-line};
 
 // The least and the greatest byte that a field may hold.
 const FIRST_MARK: u8 = 33;
+
 const LAST_MARK: u8 = 126;
 
 // How many bytes of a field stand at the front.

@@ -1,11 +1,24 @@
 //! A number in a field.
-ghost use Prim.Native.Nat.{ℕ};
+ghost use mathlib.Core.Path.{_≡_};
+ghost use Prim.Native.Nat.{_<_};
+ghost use lib.ListN.{length, getD};
+ghost use Rattle.std.specs.Orderings.{Decides};
 ghost use Rattle.std.specs.Results.{Cases};
 ghost use Rattle.text.specs.Decimal.{Writes, Number};
 
 /// A field does not hold what its column takes.
 #[derive(Clone, Copy)]
 pub struct FieldFault;
+
+// Whether a zero stands before other bytes.
+fn padded(text: &[u8]) -> bool
+    ensures { λ r. ⌜ Decides r ((1 < length (now (text .entry))) × (getD (now (text .entry)) 0 0 ≡ 48)) ⌝ }
+{
+    match text {
+        [b'0', _, ..] => true,
+        _ => false,
+    }
+}
 
 /// The number from `low` to `high` that `text` writes in decimal, without a leading zero.
 /// A text of any length is judged: once the value is above `high`, further digits keep it there.
@@ -22,10 +35,11 @@ pub fn number(text: &[u8], low: u16, high: u16) -> Result<u16, FieldFault>
             value = value * 10 + (*b - b'0') as u32;
         }
     }
-    match text {
-        [] => return Err(FieldFault),
-        [b'0', _, ..] => return Err(FieldFault),
-        _ => {}
+    if text.is_empty() {
+        return Err(FieldFault);
+    }
+    if padded(text) {
+        return Err(FieldFault);
     }
     if value < low as u32 {
         return Err(FieldFault);

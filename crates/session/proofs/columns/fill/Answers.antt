@@ -45,10 +45,15 @@ loop-i-again g c =
     let m = g .R·Row in
     let i = c .loop-i .inv .1 in
     let a = need.at·loop-i-again g c .After-at-field in
-    let f = field-ok (c .loop-i .i + 1) (c .put .result) (c .at-field .result) (c .in-Continue-at-field .field-0) _ _ (c .at-field .ensures) (c .in-Continue-at-field .was tt) (c .put .ensures .puts) in
-    (c .put .ensures .base ∙ c .loop-i .inv .0,
-     (i .0, i .1, cut g a .1,
-      one-more (m .takes (m .base (c .args .row .now))) (length (m .values (c .args .row .now))) (c .args .order .now) (c .pre .0) (c .args .line .now) (i .0) (i .1 .0) (i .1 .1) (c .loop-i .i) (m .values (c .loop-i .row)) (m .fits (c .loop-i .row)) (i .3) (c .loop-i-test .taken) (c .first-field .result .0 .now) (cut g a .0) (subst (λ T. T) (takes g a) (f .0)) (m .values (c .put .last .self)) (m .fits (c .put .last .self)) (f .1)))
+    let f = field-ok (c .loop-i .i + 1) (c .put .result) (c .at-field .result) (c .in-Continue-at-field .field-0) _ _ (c .at-field .ensures) (c .in-Continue-at-field .was tt) (c .put .ensures .puts) in (
+      c .put .ensures .base ∙ c .loop-i .inv .0,
+      (
+        i .0,
+        i .1,
+        cut g a .1,
+        one-more (m .takes (m .base (c .args .row .now))) (length (m .values (c .args .row .now))) (c .args .order .now) (c .pre .0) (c .args .line .now) (i .0) (i .1 .0) (i .1 .1) (c .loop-i .i) (m .values (c .loop-i .row)) (m .fits (c .loop-i .row)) (i .3) (c .loop-i-test .taken) (c .first-field .result .0 .now) (cut g a .0) (subst (λ T. T) (takes g a) (f .0)) (m .values (c .put .last .self)) (m .fits (c .put .last .self)) (f .1),
+      ),
+    )
 
 pub returns : need.returns
 returns g c =

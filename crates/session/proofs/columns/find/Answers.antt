@@ -11,9 +11,10 @@ use Rattle.session.specs.Columns.{texts}
 use Rattle.session.proofs.columns.find.Needs as need
 
 pub returns-then-eq : need.returns-then-eq
-returns-then-eq c =
-    (omega (arith, length-map (c .args .words .now) (λ x. x .now)),
-     getD-map (λ x. x .now) (c .args .words .now) (c .loop-i .i) _ [] (c .loop-i-test .taken) ∙ matches-decides _ _ _ (c .eq .ensures) .0 (c .if-eq .taken))
+returns-then-eq c = (
+  omega (arith, length-map (c .args .words .now) (λ x. x .now)),
+  getD-map (λ x. x .now) (c .args .words .now) (c .loop-i .i) _ [] (c .loop-i-test .taken) ∙ matches-decides _ _ _ (c .eq .ensures) .0 (c .if-eq .taken),
+)
 
 pub loop-i-again : need.loop-i-again
 loop-i-again c = below-more _ _ (c .loop-i .inv) (λ e.

@@ -34,9 +34,11 @@ returns-in-Break-has-fields c =
 pub order-of-requires : need.order-of-requires
 order-of-requires c κs =
     let m = many (need.at·order-of-requires c .After-has-fields) in
-    let t = c .args .table in
-    ((subst Apart (sym (c .titles-words .ensures)) (names-apart t), (subst (All Field) (sym (c .titles-words .ensures)) (names-fields t), omega (arith, names-some t .0, m))),
-     omega (arith, names-some t .1, m), c .in-Continue-has-fields .ensures tt)
+    let t = c .args .table in (
+      (subst Apart (sym (c .titles-words .ensures)) (names-apart t), (subst (All Field) (sym (c .titles-words .ensures)) (names-fields t), omega (arith, names-some t .0, m))),
+      omega (arith, names-some t .1, m),
+      c .in-Continue-has-fields .ensures tt,
+    )
 
 pub returns : need.returns
 returns c =

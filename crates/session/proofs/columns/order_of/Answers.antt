@@ -52,20 +52,29 @@ returns-then-contains c =
     let h = c .in-Some .ensures tt in
     record {
       room = c .loop-i .inv .0 ∙ c .clear .ensures .capacity;
-      finds = (no-line p (again _ _ _ _ (c .pre .0 .0) (long p) (within p) (c .loop-i .inv .2 .3) (c .in-Some .k) (h .0) (h .1 ∙ cut p .0)
-        (subst (λ l. Has l (c .in-Some .k)) (c .deref .ensures .value) (has-from-contains _ _ _ (c .contains .ensures .cases) .0 (c .if-contains .taken)))), refl);
+      finds = (
+        no-line p (again _ _ _ _ (c .pre .0 .0) (long p) (within p) (c .loop-i .inv .2 .3) (c .in-Some .k) (h .0) (h .1 ∙ cut p .0)
+            (subst (λ l. Has l (c .in-Some .k)) (c .deref .ensures .value) (has-from-contains _ _ _ (c .contains .ensures .cases) .0 (c .if-contains .taken)))),
+        refl,
+      );
     }
 
 pub loop-i-again : need.loop-i-again
 loop-i-again c =
     let p = need.at·loop-i-again c .After-find in
     let h = c .in-Some .ensures tt in
-    let i = c .loop-i .inv in
-    (c .push-reserved .ensures .capacity ∙ i .0, c .push-reserved .ensures .len ∙ ap (λ n. n + 1) (i .1),
-     (i .2 .0, i .2 .1, cut p .1,
-      subst (Sofar (texts (c .args .words .now)) (i .2 .0) (c .loop-i .-i + 1)) (sym (c .push-reserved .ensures .items))
-      (one-more _ _ _ _ (c .pre .0 .0) (long p) (within p) (i .2 .3) (c .in-Some .k) (h .0) (h .1 ∙ cut p .0)
-        (λ has. both-ways _ (c .if-contains .left) (has-from-contains _ _ _ (c .contains .ensures .cases) .1 (subst (λ l. Has l (c .in-Some .k)) (sym (c .deref .ensures .value)) has))))))
+    let i = c .loop-i .inv in (
+      c .push-reserved .ensures .capacity ∙ i .0,
+      c .push-reserved .ensures .len ∙ ap (λ n. n + 1) (i .1),
+      (
+        i .2 .0,
+        i .2 .1,
+        cut p .1,
+        subst (Sofar (texts (c .args .words .now)) (i .2 .0) (c .loop-i .-i + 1)) (sym (c .push-reserved .ensures .items))
+            (one-more _ _ _ _ (c .pre .0 .0) (long p) (within p) (i .2 .3) (c .in-Some .k) (h .0) (h .1 ∙ cut p .0)
+            (λ has. both-ways _ (c .if-contains .left) (has-from-contains _ _ _ (c .contains .ensures .cases) .1 (subst (λ l. Has l (c .in-Some .k)) (sym (c .deref .ensures .value)) has)))),
+      ),
+    )
 
 pub returns : need.returns
 returns c =

@@ -42,7 +42,7 @@ returns-in-Break-fill c =
     record {
       nodes = refl;
       root = refl;
-      joins = rw (p .1, p .2) (inr (cut a, inr (room a, fails-first (field-checks (link-takes (c .args .mesh .now .nodes)) (c .args .line .now) 0 (c .args .order .now)) _ _ (c .in-Break-fill .ensures tt .fills))));
+      joins = rw (p .1, p .2) (inr (cut a, inr (room a, fails-first (field-checks (link-takes (c .args .mesh .now .nodes)) (c .args .line .now) 0 (c .args .order .now)) _ _ (c .in-Break-fill .ensures tt .fills))), refl);
     }
 
 pub returns-in-Break-join : need.returns-in-Break-join
@@ -54,7 +54,7 @@ returns-in-Break-join c =
     record {
       nodes = e .nodes;
       root = e .root;
-      joins = rw (p .1, p .2) (link-fails (c .args .order .now) (c .args .mesh .now .nodes) (vec-items (c .args .mesh .now .links)) (c .args .line .now) (c .fill .last .row .link) (c .in-Break-join .field-0 .0) (c .pre .0) (c .args .mesh .now .many) (cut a) (room a) (c .in-Continue-fill .ensures tt .fills .passes) (written b) (e .links .0));
+      joins = rw (p .1, p .2) (link-fails (c .args .order .now) (c .args .mesh .now .nodes) (vec-items (c .args .mesh .now .links)) (c .args .line .now) (c .fill .last .row .link) (c .in-Break-join .field-0 .0) (c .pre .0) (c .args .mesh .now .many) (cut a) (room a) (c .in-Continue-fill .ensures tt .fills .passes) (written b) (e .links .0), e .links .1);
     }
 
 pub returns : need.returns

@@ -35,7 +35,7 @@ returns-in-Break-at-line c =
     let p = err-from-errBy (c .from-residual-in-Break-at-line .result) (c .from-residual-in-Break-at-line .ensures .1) in
     let m = c .loop-count .mesh in
     let line = c .in-Continue-count .line .now in
-    let l = line-err (4 + c .len-number .result) (c .link-line .result) (c .at-line .result) (c .in-Break-at-line .field-0 .0) _ (Fails (link-line-checks (c .args .order .now) (m .nodes) (vec-items (m .links)) line)) (c .at-line .ensures) (c .in-Break-at-line .was tt) (c .link-line .ensures .joins) in
+    let l = line-err (4 + c .len-number .result) (c .link-line .result) (c .at-line .result) (c .in-Break-at-line .field-0 .0) _ (λ e. Fails (link-line-checks (c .args .order .now) (m .nodes) (vec-items (m .links)) line) e × (vec-items (c .link-line .last .mesh .links) ≡ vec-items (m .links))) (c .at-line .ensures) (c .in-Break-at-line .was tt) (c .link-line .ensures .joins) in
     let h = c .in-Continue-count .ensures tt in
     let digit : digit-first line ≡ true = sym (c .is-link-line .ensures) ∙ c .if-not-is-link-line .left in
     let n : 4 + c .len-number .result ≡ 4 + length (vec-items (m .links)) = omega (arith, c .len-number .ensures, m .links .ok .0) in
@@ -43,11 +43,11 @@ returns-in-Break-at-line c =
       nodes = c .link-line .ensures .nodes ∙ c .loop-count .inv .0;
       root = c .link-line .ensures .root ∙ c .loop-count .inv .1;
       reads = rw (p .1, p .2) (λ bytes o k e u.
-        refuse bytes (at-links o k (c .args .order .now) (vec-items (m .links))) (c .loop-count .rest .now) line (c .in-Continue-count .after .now) (l .0) (c .in-Break-at-line .field-0 .0)
-        (c .loop-count .inv .2 bytes o k e u) (h .0) (h .1 .0) (h .1 .1 .0)
-        (subst (λ cs. Fails cs (l .0)) (link-line-at o k (c .args .order .now) (vec-items (m .links)) line digit)
-          (subst (λ x. Fails (link-line-checks (c .args .order .now) x (vec-items (m .links)) line) (l .0)) (c .loop-count .inv .0 ∙ sym e) (l .1)))
-        (l .2 ∙ ap (λ x. Line x (l .0)) n));
+          refuse bytes (at-links o k (c .args .order .now) (vec-items (m .links))) (c .loop-count .rest .now) line (c .in-Continue-count .after .now) (l .0) (c .in-Break-at-line .field-0 .0)
+          (c .loop-count .inv .2 bytes o k e u) (h .0) (h .1 .0) (h .1 .1 .0)
+          (subst (λ cs. Fails cs (l .0)) (link-line-at o k (c .args .order .now) (vec-items (m .links)) line digit)
+          (subst (λ x. Fails (link-line-checks (c .args .order .now) x (vec-items (m .links)) line) (l .0)) (c .loop-count .inv .0 ∙ sym e) (l .1 .0)))
+          (l .2 ∙ ap (λ x. Line x (l .0)) n));
     }
 
 pub loop-count-less : need.loop-count-less
@@ -59,10 +59,11 @@ loop-count-again c =
     let line = c .in-Continue-count .line .now in
     let order = c .args .order .now in
     let g = line-ok (4 + c .len-number .result) (c .link-line .result) (c .at-line .result) (c .in-Continue-at-line .field-0)
-          (λ _. (l : Link) × Link-line order (m .nodes) line l × (length (vec-items (m .links)) < 512) × Ends-differ l × (Joins (vec-items (m .links)) (l .from) (l .to) → ⊥) × (vec-items (c .link-line .last .mesh .links) ≡ vec-items (m .links) ++ l ∷ [])) _
-          (c .at-line .ensures) (c .in-Continue-at-line .was tt) (c .link-line .ensures .joins) in
-    (c .link-line .ensures .nodes ∙ c .loop-count .inv .0,
-     c .link-line .ensures .root ∙ c .loop-count .inv .1,
-     λ bytes o h e u. subst (λ ls. Up-to bytes (at-links o h order ls) (c .in-Continue-count .after .now)) (sym (g .5))
-       (more-links bytes (c .loop-count .rest .now) line (c .in-Continue-count .after .now) (c .in-Continue-count .ensures tt .0) o h order (vec-items (m .links)) (g .0)
-         (c .loop-count .inv .2 bytes o h e u) (subst (λ x. Link-line order x line (g .0)) (c .loop-count .inv .0 ∙ sym e) (g .1)) (g .2) (g .3) (g .4)))
+    (λ _. (l : Link) × Link-line order (m .nodes) line l × (length (vec-items (m .links)) < 512) × Ends-differ l × (Joins (vec-items (m .links)) (l .from) (l .to) → ⊥) × (vec-items (c .link-line .last .mesh .links) ≡ vec-items (m .links) ++ l ∷ [])) _
+    (c .at-line .ensures) (c .in-Continue-at-line .was tt) (c .link-line .ensures .joins) in (
+      c .link-line .ensures .nodes ∙ c .loop-count .inv .0,
+      c .link-line .ensures .root ∙ c .loop-count .inv .1,
+      λ bytes o h e u. subst (λ ls. Up-to bytes (at-links o h order ls) (c .in-Continue-count .after .now)) (sym (g .5))
+          (more-links bytes (c .loop-count .rest .now) line (c .in-Continue-count .after .now) (c .in-Continue-count .ensures tt .0) o h order (vec-items (m .links)) (g .0)
+          (c .loop-count .inv .2 bytes o h e u) (subst (λ x. Link-line order x line (g .0)) (c .loop-count .inv .0 ∙ sym e) (g .1)) (g .2) (g .3) (g .4)),
+    )

@@ -13,6 +13,6 @@ pub returns : need.returns
 returns c =
     same (after4 (codes "fault layer line field\n") (decimal (fault-number (c .args .fault))) (layer-word Reader) (decimal (fault-line (c .args .fault))) (decimal (fault-field (c .args .fault))))
     (then (then (then (then (c .put-bytes-a .ensures) (same (ap (λ n. decimal n ++ 32 ∷ []) (c .number .ensures)) (c .put-number-field-b .ensures)))
-      (same (ap (λ w. w ++ 32 ∷ []) (c .word .ensures ∙ ap layer-word (c .layer .ensures))) (c .put-word-field-c .ensures)))
-      (same (ap (λ n. decimal n ++ 32 ∷ []) (c .line .ensures)) (c .put-number-field-d .ensures)))
-      (same (ap (λ n. decimal n ++ 10 ∷ []) (c .field .ensures)) (c .put-number-field .ensures)))
+    (same (ap (λ w. w ++ 32 ∷ []) (c .word .ensures ∙ ap layer-word (c .layer .ensures))) (c .put-word-field-c .ensures)))
+    (same (ap (λ n. decimal n ++ 32 ∷ []) (c .line .ensures)) (c .put-number-field-d .ensures)))
+    (same (ap (λ n. decimal n ++ 10 ∷ []) (c .field .ensures)) (c .put-number-field .ensures)))

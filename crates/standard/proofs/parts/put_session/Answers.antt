@@ -17,6 +17,6 @@ returns c =
     let s = c .args .session .now in
     same (tables (setting-text (0 ∷ 1 ∷ 2 ∷ 3 ∷ 4 ∷ []) (content s .setting)) (row (0 ∷ 1 ∷ 2 ∷ 3 ∷ []) (names Links)) (joined (row (0 ∷ 1 ∷ 2 ∷ 3 ∷ [])) (map link-values (vec-items (s .mesh .links)))) (row (0 ∷ 1 ∷ []) (names Steps)) (joined (row (0 ∷ 1 ∷ [])) (map step-values (vec-items (s .steps)))))
     (then (then (then (then (c .put-setting-a .ensures) (c .put-bytes-b .ensures))
-      (same (ap (λ t. joined (row (0 ∷ 1 ∷ 2 ∷ 3 ∷ [])) (map link-values t)) (c .deref .ensures .value)) (c .put-links-c .ensures)))
-      (c .put-bytes-d .ensures))
-      (same (ap (λ t. joined (row (0 ∷ 1 ∷ [])) (map step-values t)) (c .deref-2 .ensures .value)) (c .put-steps .ensures)))
+    (same (ap (λ t. joined (row (0 ∷ 1 ∷ 2 ∷ 3 ∷ [])) (map link-values t)) (c .deref .ensures .value)) (c .put-links-c .ensures)))
+    (c .put-bytes-d .ensures))
+    (same (ap (λ t. joined (row (0 ∷ 1 ∷ [])) (map step-values t)) (c .deref-2 .ensures .value)) (c .put-steps .ensures)))

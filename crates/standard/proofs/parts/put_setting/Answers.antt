@@ -11,6 +11,6 @@ pub returns : need.returns
 returns c =
     same (after5 (row (0 ∷ 1 ∷ 2 ∷ 3 ∷ 4 ∷ []) (names Settings)) _ _ _ _ _)
     (then (then (then (then (then (c .put-bytes-a .ensures) (c .put-number-field-b .ensures)) (c .put-number-field-c .ensures))
-      (same (ap (λ w. w ++ 32 ∷ []) (c .word .ensures)) (c .put-word-field-d .ensures)))
-      (same (ap (λ w. w ++ 32 ∷ []) (c .word-2 .ensures)) (c .put-word-field-e .ensures)))
-      (same (ap (λ w. w ++ 10 ∷ []) (c .word-3 .ensures)) (c .put-word-field .ensures)))
+    (same (ap (λ w. w ++ 32 ∷ []) (c .word .ensures)) (c .put-word-field-d .ensures)))
+    (same (ap (λ w. w ++ 32 ∷ []) (c .word-2 .ensures)) (c .put-word-field-e .ensures)))
+    (same (ap (λ w. w ++ 10 ∷ []) (c .word-3 .ensures)) (c .put-word-field .ensures)))

@@ -17,8 +17,8 @@ returns-then-n-eq0 c line after fs e w =
     let r = reach (need.at·returns-then-n-eq0 c .After-span-n) in
     let l = c .loop-count .inv .2 .1 .left (line, after, fs, e, w) in
     elim (c .then-n-eq0 .came) [
-      then-n-eq0·by·then-n-eq0 v ↦ no-line _ (nothing _ _ _ r (v .if-n-eq0 .taken)) l
-    | then-n-eq0·by·else-n-eq0·then-end-text v ↦ endless _ (all-found _ _ _ r (v .if-end-text .taken)) l
+      | then-n-eq0·by·then-n-eq0 v ↦ no-line _ (nothing _ _ _ r (v .if-n-eq0 .taken)) l
+      | then-n-eq0·by·else-n-eq0·then-end-text v ↦ endless _ (all-found _ _ _ r (v .if-end-text .taken)) l
     ]
 
 pub returns-then-text-end-eq10 : need.returns-then-text-end-eq10
@@ -31,11 +31,12 @@ returns-then-text-end-eq10 c =
     let in′ : end < length text = omega arith in
     let f = found text (c .loop-count .at) (c .span-n .result) r in
     let tail : drop (c .loop-count .at) text ≡ f ++ 10 ∷ take (length text - (end + 1)) (drop (end + 1) text) =
-          split _ _ _ r in′ ∙ ap (λ b. f ++ (b ∷ drop (end + 1) text)) (c .if-text-end-eq10 .taken) ∙ ap (λ t. f ++ 10 ∷ t) (sym (take-rest text (end + 1))) in
+    split _ _ _ r in′ ∙ ap (λ b. f ++ (b ∷ drop (end + 1) text)) (c .if-text-end-eq10 .taken) ∙ ap (λ t. f ++ 10 ∷ t) (sym (take-rest text (end + 1))) in
     let d = done text (i .0) _ f _ (i .1) (found-field _ _ _ r (c .if-n-eq0 .left)) tail in
-    let e = line-at _ _ _ r (i .0) (i .1) in
-    (d .0 ∙ ap (λ t. t ++ 10 ∷ take (length text - (end + 1)) (drop (end + 1) text)) (sym e),
-     (_, (subst (λ t. Fields t (i .0 ++ f ∷ [])) (sym e) (d .1), omega (arith, length-push (i .0) f, i .2))))
+    let e = line-at _ _ _ r (i .0) (i .1) in (
+      d .0 ∙ ap (λ t. t ++ 10 ∷ take (length text - (end + 1)) (drop (end + 1) text)) (sym e),
+      (_, (subst (λ t. Fields t (i .0 ++ f ∷ [])) (sym e) (d .1), omega (arith, length-push (i .0) f, i .2))),
+    )
 
 pub returns-then-text-end-ne32 : need.returns-then-text-end-ne32
 returns-then-text-end-ne32 c line after fs e w =
@@ -50,7 +51,12 @@ loop-count-again c =
     let end = c .loop-count .at + c .span-n .result in
     let i = c .loop-count .inv .2 in
     let in′ : end < length text = omega arith in
-    let f = found text (c .loop-count .at) (c .span-n .result) r in
-    (omega arith, omega (arith, c .loop-count .inv .1),
-     (_, one-more text (i .0) _ f _ (i .1) (found-field _ _ _ r (c .if-n-eq0 .left)) (split _ _ _ r in′ ∙ ap (λ b. f ++ (b ∷ drop (end + 1) text)) (c .if-text-end-ne32 .left)),
-      omega (arith, length-push (i .0) f, i .2)))
+    let f = found text (c .loop-count .at) (c .span-n .result) r in (
+      omega arith,
+      omega (arith, c .loop-count .inv .1),
+      (
+        _,
+        one-more text (i .0) _ f _ (i .1) (found-field _ _ _ r (c .if-n-eq0 .left)) (split _ _ _ r in′ ∙ ap (λ b. f ++ (b ∷ drop (end + 1) text)) (c .if-text-end-ne32 .left)),
+        omega (arith, length-push (i .0) f, i .2),
+      ),
+    )

@@ -1,11 +1,13 @@
-use mathlib.Core.Path.{_≡_, sym, subst}
+use mathlib.Core.Path.{_≡_, sym, subst, _∙_}
 use native.Mathlib.Omega.{arith}
-use borrow.Author.Tests.{ltb-true, ltb-false}
+use borrow.Author.Tests.{true-eqb, eqb-false}
+use mathlib.Core.Logic.{⊎-elim}
+use Rattle.std.proofs.shelf.Tests.{both-ways, cases-lt}
 use Prim.Native.Nat.{_<_, _≤_, _+_, _^_}
 use lib.ListN.{length, getD, take}
 use Rattle.text.proofs.Digits.{Sofar, byte-of, some-of, zero-alone, value-small, done, one-more, past}
 use Rattle.text.proofs.number.number.Needs as need
-use Rattle.text.proofs.number.number.Needs.{then-b-lt48·by·then-b-lt48, then-b-lt48·by·else-b-lt48·then-b-gt57, then-value-most, else-value-most, then-text-lt2, else-text-lt2·in-rest·}
+use Rattle.text.proofs.number.number.Needs.{then-b-lt48·by·then-b-lt48, then-b-lt48·by·else-b-lt48·then-b-gt57, then-value-most, else-value-most}
 
 pub returns-then-b-lt48 : need.returns-then-b-lt48
 returns-then-b-lt48 c (n, w) =
@@ -16,17 +18,17 @@ pub loop-b-again : need.loop-b-again
 loop-b-again c =
     let S = Sofar (c .args .high) (take (c .loop-b .b-index + 1) (c .args .text .now)) in
     elim (c .if-value-most .came) [
-      then-value-most w ↦ subst S (sym (w .value-is)) (one-more _ _ _ _ (c .loop-b-test .taken) (c .loop-b .inv) (c .if-b-lt48 .left) (c .if-b-gt57 .left) (w .if-value-most .taken))
+      | then-value-most w ↦ subst S (sym (w .value-is)) (one-more _ _ _ _ (c .loop-b-test .taken) (c .loop-b .inv) (c .if-b-lt48 .left) (c .if-b-gt57 .left) (w .if-value-most .taken))
       | else-value-most w ↦ subst S (sym (w .value-is)) (past _ _ _ _ (c .loop-b-test .taken) (c .loop-b .inv) (c .if-b-lt48 .left) (c .if-b-gt57 .left) (w .if-value-most .left))
     ]
 
-pub returns-in-empty : need.returns-in-empty
-returns-in-empty c (n, w) = let k = some-of _ _ _ (omega arith) n w in omega (arith, ltb-true, ltb-false)
+pub returns-then-is-empty : need.returns-then-is-empty
+returns-then-is-empty c (n, w) = let k = some-of _ _ _ (omega arith) n w in omega (arith, true-eqb _ 0 (c .if-is-empty .ensures tt))
 
-pub returns-in-48 : need.returns-in-48
-returns-in-48 c (n, w) =
-    let z : getD (c .args .text .now) 0 0 ≡ 48 = omega arith in
-    let k = zero-alone _ _ _ (omega arith) n w z in omega (arith, ltb-true, ltb-false)
+pub returns-then-padded : need.returns-then-padded
+returns-then-padded c (n, w) =
+    let p = c .padded .ensures .0 (c .if-padded .taken) in
+    let k = zero-alone _ _ _ (omega arith) n w (p .1) in omega (arith, p .0)
 
 pub returns-then-value-low : need.returns-then-value-low
 returns-then-value-low c (n, w) = let k = value-small _ _ _ (omega arith) _ _ (c .loop-b-test .left) (c .loop-b .inv) n w in omega (arith, w .least)
@@ -36,6 +38,7 @@ returns-then-value-most-2 c (n, w) = let k = value-small _ _ _ (omega arith) _ _
 
 pub returns : need.returns
 returns c =
-    done _ _ _ (omega arith) _ _ (c .loop-b-test .left) (c .loop-b .inv) (omega (arith, ltb-true, ltb-false))
-    (λ z. elim (c .if-text-lt2 .came) [ then-text-lt2 w ↦ omega (arith, ltb-true, ltb-false) | else-text-lt2·in-rest· w ↦ omega (arith, ltb-true, ltb-false) ])
+    let some : 0 < length (c .args .text .now) = omega (arith, eqb-false _ _ (sym (c .is-empty .ensures) ∙ c .if-is-empty .left)) in
+    done _ _ _ (omega arith) _ _ (c .loop-b-test .left) (c .loop-b .inv) some
+    (λ z. ⊎-elim (λ (long : 1 < length (c .args .text .now)). absurd (both-ways _ (c .if-padded .left) (c .padded .ensures .1 (long, z)))) (λ short. omega arith) (cases-lt 1 (length (c .args .text .now))))
     (c .if-value-low .left) (c .if-value-most-2 .left)

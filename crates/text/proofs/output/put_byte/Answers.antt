@@ -10,7 +10,7 @@ pub returns : need.returns
 returns c = record {
   place = λ h. mod-eq-of-lt h;
   after = λ h. elim (c .if-at-out .came) [
-      then-at-out w ↦ w .out-is
+    | then-at-out w ↦ w .out-is
     | else-at-out w ↦ w .out-is ∙ sym (set-past (c .args .out .now) (c .args .at) (c .args .byte) (w .if-at-out .left))
-    ];
+  ];
 }

@@ -43,19 +43,42 @@ ghost-self c =
     let square : length taken ≡ 4096 = sym (m .taken .ok .0) ∙ m .square in
     let fresh : Joins links (c .args .link .from) (c .args .link .to) → ⊥ = λ j. m .free (c .args .link .from) (c .args .link .to) (e .0, e .1, told a ∙ c .if-index .left, j) in
     let each : (P : Link → Type 0) → Every-link P links → P (c .args .link) → Every-link P (vec-items (c .push-reserved .last .self)) =
-          λ P old here. new c (Every-link P) (every-push P links (c .args .link) old here) in
+    λ P old here. new c (Every-link P) (every-push P links (c .args .link) old here) in
     let indexed : (P : List Bool → List Link → Type 0) → P (set taken (c .args .link .from * 64 + c .args .link .to) true) (links ++ c .args .link ∷ []) → P (set taken (c .pair-of-pair .result) true) (vec-items (c .push-reserved .last .self)) =
-          λ P h. new c (P (set taken (c .pair-of-pair .result) true)) (subst (λ k. P (set taken k true) (links ++ c .args .link ∷ [])) (sym (c .pair-of-pair .ensures)) h) in
-    (m .many, (m .rooted, (omega (arith, c .push-reserved .ensures .len, leb-false 512 (length links) (sym (c .is-full .ensures) ∙ c .if-is-full .left), m .links .ok .0),
-     (each (Ends-in (m .nodes)) (m .ends) (range a .0),
-     (each Cost-in (m .costs) (range a .1),
-     (each Width-in (m .widths) (range a .2),
-     (each Ends-differ (m .apart) (c .if-link .left),
-     (new c Pairs-once (once-push links (c .args .link) (m .once) fresh),
-     (m .square,
-     (indexed Free-known (free-push taken links (c .args .link) square (e .0) (e .1) (m .free)),
-     (indexed Used-known (used-push taken links (c .args .link) square (e .0) (e .1) (m .used)),
-     (omega (arith, c .push-reserved .ensures .capacity, m .roomy), tt))))))))))))
+    λ P h. new c (P (set taken (c .pair-of-pair .result) true)) (subst (λ k. P (set taken k true) (links ++ c .args .link ∷ [])) (sym (c .pair-of-pair .ensures)) h) in (
+      m .many,
+      (
+        m .rooted,
+        (
+          omega (arith, c .push-reserved .ensures .len, leb-false 512 (length links) (sym (c .is-full .ensures) ∙ c .if-is-full .left), m .links .ok .0),
+          (
+            each (Ends-in (m .nodes)) (m .ends) (range a .0),
+            (
+              each Cost-in (m .costs) (range a .1),
+              (
+                each Width-in (m .widths) (range a .2),
+                (
+                  each Ends-differ (m .apart) (c .if-link .left),
+                  (
+                    new c Pairs-once (once-push links (c .args .link) (m .once) fresh),
+                    (
+                      m .square,
+                      (
+                        indexed Free-known (free-push taken links (c .args .link) square (e .0) (e .1) (m .free)),
+                        (
+                          indexed Used-known (used-push taken links (c .args .link) square (e .0) (e .1) (m .used)),
+                          (omega (arith, c .push-reserved .ensures .capacity, m .roomy), tt),
+                        ),
+                      ),
+                    ),
+                  ),
+                ),
+              ),
+            ),
+          ),
+        ),
+      ),
+    )
 
 pub returns-then-index : need.returns-then-index
 returns-then-index c =
@@ -65,6 +88,17 @@ returns-then-index c =
     record {
       nodes = refl;
       root = refl;
-      links = (inr (leb-false 512 (length (vec-items (m .links))) (sym (c .is-full .ensures) ∙ c .if-is-full .left), inr (range a, inr (c .if-link .left,
-        inl (λ fresh. m .used (c .args .link .from) (c .args .link .to) (e .0, e .1, told a ∙ c .if-index .taken, fresh), refl)))), refl);
+      links = (
+        inr (
+          leb-false 512 (length (vec-items (m .links))) (sym (c .is-full .ensures) ∙ c .if-is-full .left),
+          inr (
+            range a,
+            inr (
+              c .if-link .left,
+              inl (λ fresh. m .used (c .args .link .from) (c .args .link .to) (e .0, e .1, told a ∙ c .if-index .taken, fresh), refl),
+            ),
+          ),
+        ),
+        refl,
+      );
     }

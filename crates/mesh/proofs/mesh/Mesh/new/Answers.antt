@@ -24,22 +24,30 @@ returns-in-Err c =
     let i = c .loop-k .inv in
     let f = c .in-Err .ensures tt .links .0 in
     let l = getD (c .args .links .now) (c .loop-k .k) no-link in
-    inr (i .0 .0, inr (i .0 .1 .0,
-      refused (c .args .nodes) (c .args .links .now) (c .loop-k .k) (i .4) l (c .loop-k-test .taken) (getD-default (c .args .links .now) (c .loop-k .k) l no-link (c .loop-k-test .taken)) (c .in-Err .fault)
-      (subst (λ n. Fails (link-checks n (take (c .loop-k .k) (c .args .links .now)) l) (c .in-Err .fault)) (i .1)
-        (subst (λ t. Fails (link-checks (c .loop-k .mesh .nodes) t l) (c .in-Err .fault)) (i .3) f))))
+    inr (
+      i .0 .0,
+      inr (
+        i .0 .1 .0,
+        refused (c .args .nodes) (c .args .links .now) (c .loop-k .k) (i .4) l (c .loop-k-test .taken) (getD-default (c .args .links .now) (c .loop-k .k) l no-link (c .loop-k-test .taken)) (c .in-Err .fault)
+            (subst (λ n. Fails (link-checks n (take (c .loop-k .k) (c .args .links .now)) l) (c .in-Err .fault)) (i .1)
+            (subst (λ t. Fails (link-checks (c .loop-k .mesh .nodes) t l) (c .in-Err .fault)) (i .3) f)),
+      ),
+    )
 
 pub loop-k-again : need.loop-k-again
 loop-k-again c =
     let i = c .loop-k .inv in
     let e = c .in-rest .ensures tt in
     let l = getD (c .args .links .now) (c .loop-k .k) no-link in
-    let is = getD-default (c .args .links .now) (c .loop-k .k) l no-link (c .loop-k-test .taken) in
-    (i .0, e .nodes ∙ i .1, e .root ∙ i .2,
-     e .links .1 ∙ ap (λ t. t ++ l ∷ []) (i .3) ∙ sym (take-more (c .args .links .now) (c .loop-k .k) no-link (c .loop-k-test .taken)),
-     one-more (c .args .nodes) (c .args .links .now) (c .loop-k .k) (i .4) l (c .loop-k-test .taken) is
-      (subst (λ n. Passes (link-checks n (take (c .loop-k .k) (c .args .links .now)) l)) (i .1)
-        (subst (λ t. Passes (link-checks (c .loop-k .mesh .nodes) t l)) (i .3) (e .links .0))))
+    let is = getD-default (c .args .links .now) (c .loop-k .k) l no-link (c .loop-k-test .taken) in (
+      i .0,
+      e .nodes ∙ i .1,
+      e .root ∙ i .2,
+      e .links .1 ∙ ap (λ t. t ++ l ∷ []) (i .3) ∙ sym (take-more (c .args .links .now) (c .loop-k .k) no-link (c .loop-k-test .taken)),
+      one-more (c .args .nodes) (c .args .links .now) (c .loop-k .k) (i .4) l (c .loop-k-test .taken) is
+          (subst (λ n. Passes (link-checks n (take (c .loop-k .k) (c .args .links .now)) l)) (i .1)
+          (subst (λ t. Passes (link-checks (c .loop-k .mesh .nodes) t l)) (i .3) (e .links .0))),
+    )
 
 pub returns : need.returns
 returns c =

@@ -15,7 +15,7 @@ use Rattle.vocab.specs.declared.kinds.Setting.{Setting}
 use Rattle.vocab.specs.declared.faults.ReadFault.the-variants.{Line}
 use Rattle.session.specs.Columns.{Order, arranged}
 use Rattle.vocab.specs.Words.{names}
-use Rattle.session.specs.Content.{Content}
+use Rattle.session.specs.Content.{Content, standard}
 use Rattle.session.specs.Stages.{Links-read, Steps-read}
 use Rattle.session.specs.Verdict.{Up-to, Accepts, at-link-names, at-links, at-steps, before, names-checks, Judgement, accepted, refused}
 use Rattle.session.proofs.Handed.{line-ok, line-err}
@@ -28,13 +28,13 @@ use Rattle.session.proofs.session.Room.read.Needs.{In-Continue-setting, In-Con
 pub returns-in-Break-setting : need.returns-in-Break-setting
 returns-in-Break-setting c =
     let p = err-from-errBy (c .from-residual .result) (c .from-residual .ensures .1) in
-    rw (p .1, p .2) (judged (c .args .bytes .now) (refused (c .in-Break-setting .field-0 .0)) (c .in-Break-setting .ensures tt .reads))
+    record { judged = rw (p .1, p .2) (judged (c .args .bytes .now) (refused (c .in-Break-setting .field-0 .0)) (c .in-Break-setting .ensures tt .reads)); sized = rw (p .1) tt }
 
 pub returns-in-Break-links-text : need.returns-in-Break-links-text
 returns-in-Break-links-text c =
     let p = err-from-errBy (c .from-residual-in-Break-links-text .result) (c .from-residual-in-Break-links-text .ensures .1) in
     let u = c .in-Continue-setting .ensures tt .reads in
-    rw (p .1, p .2) (judged (c .args .bytes .now) (refused (c .in-Break-links-text .field-0 .0)) (c .in-Break-links-text .ensures tt .reads (c .args .bytes .now) (u .0) (c .in-Continue-setting .setting) (u .1)))
+    record { judged = rw (p .1, p .2) (judged (c .args .bytes .now) (refused (c .in-Break-links-text .field-0 .0)) (c .in-Break-links-text .ensures tt .reads (c .args .bytes .now) (u .0) (c .in-Continue-setting .setting) (u .1))); sized = rw (p .1) tt }
 
 -- the file is in order up to the first link
 up-links : (c : In-Ok) → Up-to (c .args .bytes .now) (at-links (c .in-Continue-setting .ensures tt .reads .0) (c .in-Continue-setting .setting) (vec-items (c .link-names .last .columns)) []) (c .in-Continue-links-text .links-text .now)
@@ -47,9 +47,12 @@ returns-in-Break-count c =
     let p = err-from-errBy (c .from-residual-in-Break-count .result) (c .from-residual-in-Break-count .ensures .1) in
     let o = c .in-Continue-setting .ensures tt .reads .0 in
     let h = c .in-Continue-setting .setting in
-    rw (p .1, p .2) (judged (c .args .bytes .now) (refused (c .in-Break-count .field-0 .0))
-      (c .in-Break-count .ensures tt .reads (c .args .bytes .now) o h (sym (c .in-Ok .ensures tt .1))
-        (subst (λ x. Up-to (c .args .bytes .now) (at-links o h x []) (c .in-Continue-links-text .links-text .now)) (sym (c .deref .ensures .value)) (up-links (need.at·returns-in-Break-count c .In-Ok)))))
+    record {
+      judged = rw (p .1, p .2) (judged (c .args .bytes .now) (refused (c .in-Break-count .field-0 .0))
+          (c .in-Break-count .ensures tt .reads (c .args .bytes .now) o h (sym (c .in-Ok .ensures tt .1))
+          (subst (λ x. Up-to (c .args .bytes .now) (at-links o h x []) (c .in-Continue-links-text .links-text .now)) (sym (c .deref .ensures .value)) (up-links (need.at·returns-in-Break-count c .In-Ok)))));
+      sized = rw (p .1) tt;
+    }
 
 -- up to the line after the links
 up-names : (c : In-Continue-count) → Up-to (c .args .bytes .now) (at-links (c .in-Continue-setting .ensures tt .reads .0) (c .in-Continue-setting .setting) (vec-items (c .link-names .last .columns)) (vec-items (c .link-table .last .mesh .links))) (c .in-Continue-count .line .now ++ 10 ∷ c .in-Continue-count .steps-text .now)
@@ -74,9 +77,12 @@ returns-in-Break-at-line c =
     let r = c .in-Continue-count .ensures tt .reads in
     let l = line-err (4 + c .len-number .result) (c .names-line .result) (c .at-line .result) (c .in-Break-at-line .field-0 .0) _ (Fails (names-checks (names Steps) line)) (c .at-line .ensures) (c .in-Break-at-line .was tt) (c .names-line .ensures .reads) in
     let n : 4 + c .len-number .result ≡ 4 + length ls = omega (arith, c .len-number .ensures, c .link-table .last .mesh .links .ok .0) in
-    rw (e .1, e .2) (judged (c .args .bytes .now) (refused (c .in-Break-at-line .field-0 .0))
-      (refuse (c .args .bytes .now) (at-links o h p ls) _ line (c .in-Continue-count .steps-text .now) (l .0) (c .in-Break-at-line .field-0 .0) (up-names (need.at·returns-in-Break-at-line c .In-Continue-count)) refl (r .cut .0) (r .cut .1 .0)
-        (subst (λ cs. Fails cs (l .0)) (names-line-at o h p ls line (r .ends)) (l .1)) (l .2 ∙ ap (λ x. Line x (l .0)) n)))
+    record {
+      judged = rw (e .1, e .2) (judged (c .args .bytes .now) (refused (c .in-Break-at-line .field-0 .0))
+          (refuse (c .args .bytes .now) (at-links o h p ls) _ line (c .in-Continue-count .steps-text .now) (l .0) (c .in-Break-at-line .field-0 .0) (up-names (need.at·returns-in-Break-at-line c .In-Continue-count)) refl (r .cut .0) (r .cut .1 .0)
+          (subst (λ cs. Fails cs (l .0)) (names-line-at o h p ls line (r .ends)) (l .1)) (l .2 ∙ ap (λ x. Line x (l .0)) n)));
+      sized = rw (e .1) tt;
+    }
 
 -- the names of the steps
 named : (c : In-Continue-at-line) → Order 2 (vec-items (c .names-line .last .order)) × (c .in-Continue-count .line .now ≡ spaced (arranged (vec-items (c .names-line .last .order)) (names Steps)))
@@ -95,10 +101,13 @@ step-table-requires c κs =
     let a = need.at·step-table-requires c .In-Continue-at-line in
     let u = up-names (need.at·step-table-requires c .In-Continue-count) in
     let n = named a in
-    let m = c .link-table .last .mesh in
-    ((subst (Order 2) (sym (c .deref-2 .ensures .value)) (n .0), (omega (arith, c .len-number .ensures, m .few), c .args .self .empty)),
-     (omega (arith, u .short, ap length (u .is), length-append (before (at-links (c .in-Continue-setting .ensures tt .reads .0) (c .in-Continue-setting .setting) (vec-items (c .link-names .last .columns)) (vec-items (m .links)))) (c .in-Continue-count .line .now ++ 10 ∷ c .in-Continue-count .steps-text .now), length-append (c .in-Continue-count .line .now) (10 ∷ c .in-Continue-count .steps-text .now)),
-      c .args .self .enough))
+    let m = c .link-table .last .mesh in (
+      (subst (Order 2) (sym (c .deref-2 .ensures .value)) (n .0), (omega (arith, c .len-number .ensures, m .few), c .args .self .empty)),
+      (
+        omega (arith, u .short, ap length (u .is), length-append (before (at-links (c .in-Continue-setting .ensures tt .reads .0) (c .in-Continue-setting .setting) (vec-items (c .link-names .last .columns)) (vec-items (m .links)))) (c .in-Continue-count .line .now ++ 10 ∷ c .in-Continue-count .steps-text .now), length-append (c .in-Continue-count .line .now) (10 ∷ c .in-Continue-count .steps-text .now)),
+        c .args .self .enough,
+      ),
+    )
 
 pub returns-in-Break-step-table : need.returns-in-Break-step-table
 returns-in-Break-step-table c =
@@ -108,9 +117,12 @@ returns-in-Break-step-table c =
     let p = vec-items (c .link-names .last .columns) in
     let ls = vec-items (c .link-table .last .mesh .links) in
     let u = up-steps (need.at·returns-in-Break-step-table c .In-Continue-at-line) (up-names (need.at·returns-in-Break-step-table c .In-Continue-count)) in
-    rw (e .1, e .2) (judged (c .args .bytes .now) (refused (c .in-Break-step-table .field-0 .0))
-      (c .in-Break-step-table .ensures tt .reads (c .args .bytes .now) o h p ls (omega (arith, c .len-number .ensures, c .link-table .last .mesh .links .ok .0))
-        (subst (λ x. Up-to (c .args .bytes .now) (at-steps o h p ls x []) (c .in-Continue-count .steps-text .now)) (sym (c .deref-2 .ensures .value)) u)))
+    record {
+      judged = rw (e .1, e .2) (judged (c .args .bytes .now) (refused (c .in-Break-step-table .field-0 .0))
+          (c .in-Break-step-table .ensures tt .reads (c .args .bytes .now) o h p ls (omega (arith, c .len-number .ensures, c .link-table .last .mesh .links .ok .0))
+          (subst (λ x. Up-to (c .args .bytes .now) (at-steps o h p ls x []) (c .in-Continue-count .steps-text .now)) (sym (c .deref-2 .ensures .value)) u)));
+      sized = rw (e .1) tt;
+    }
 
 -- up to the end
 up-end : (c : In-Continue-step-table) (u : Up-to (c .args .bytes .now) (at-steps (c .in-Continue-setting .ensures tt .reads .0) (c .in-Continue-setting .setting) (vec-items (c .link-names .last .columns)) (vec-items (c .link-table .last .mesh .links)) (vec-items (c .names-line .last .order)) []) (c .in-Continue-count .steps-text .now)) → Up-to (c .args .bytes .now) (at-steps (c .in-Continue-setting .ensures tt .reads .0) (c .in-Continue-setting .setting) (vec-items (c .link-names .last .columns)) (vec-items (c .link-table .last .mesh .links)) (vec-items (c .names-line .last .order)) (vec-items (c .step-table .last .steps))) []
@@ -140,18 +152,20 @@ writes c u =
     subst (λ h. Accepts (c .args .bytes .now) (record { setting = h; links = ls; steps = ss })) (same-setting c)
     (_, _, _, u .short, s .0, s .2, s .4, record { setting = s .1; links = s .3; steps = s .5 }, u .is ∙ append-nil _)
 
+-- the text in the standard order is as long as the file
+long : (c : In-Continue-step-table) (u : Up-to (c .args .bytes .now) (at-steps (c .in-Continue-setting .ensures tt .reads .0) (c .in-Continue-setting .setting) (vec-items (c .link-names .last .columns)) (vec-items (c .link-table .last .mesh .links)) (vec-items (c .names-line .last .order)) (vec-items (c .step-table .last .steps))) []) → length (standard (record { setting = record { nodes = c .link-table .last .mesh .nodes; root = c .link-table .last .mesh .root; kind = c .in-Continue-setting .setting .kind; detector = c .in-Continue-setting .setting .detector; channel = c .in-Continue-setting .setting .channel }; links = vec-items (c .link-table .last .mesh .links); steps = vec-items (c .step-table .last .steps) })) ≡ length (c .args .bytes .now)
+long c u = let w = writes c u in standard-length (w .0) (w .1) (w .2) _ (w .4) (w .5) (w .6) ∙ ap length (sym (w .8))
+
 pub ghost-result : need.ghost-result
 ghost-result c =
-    let u = up-end (need.at·ghost-result c .In-Continue-step-table) (up-steps (need.at·ghost-result c .In-Continue-at-line) (up-names (need.at·ghost-result c .In-Continue-count))) in
-    let w = writes (need.at·ghost-result c .In-Continue-step-table) u in
-    let h = c .in-Continue-setting .setting in
-    let m = c .link-table .last .mesh in
-    let content : Content = record { setting = record { nodes = m .nodes; root = m .root; kind = h .kind; detector = h .detector; channel = h .channel }; links = vec-items (m .links); steps = vec-items (c .step-table .last .steps) } in
-    let same = standard-length (w .0) (w .1) (w .2) content (w .4) (w .5) (w .6) ∙ ap length (sym (w .8)) in
-    (λ k d l. all-getD (λ s. s .pick ≤ 65535) (vec-items (c .step-table .last .steps)) k d l (u .sound .5),
-     (omega (arith, same, w .3), tt))
+    let a = need.at·ghost-result c .In-Continue-step-table in
+    let u = up-end a (up-steps (need.at·ghost-result c .In-Continue-at-line) (up-names (need.at·ghost-result c .In-Continue-count))) in (
+      λ k d l. all-getD (λ s. s .pick ≤ 65535) (vec-items (c .step-table .last .steps)) k d l (u .sound .5),
+      (omega (arith, long a u, u .short), tt),
+    )
 
 pub returns : need.returns
 returns c =
-    let u = up-end (need.at·returns c .In-Continue-step-table) (up-steps (need.at·returns c .In-Continue-at-line) (up-names (need.at·returns c .In-Continue-count))) in
-    judged (c .args .bytes .now) (accepted _) (writes (need.at·returns c .In-Continue-step-table) u)
+    let a = need.at·returns c .In-Continue-step-table in
+    let u = up-end a (up-steps (need.at·returns c .In-Continue-at-line) (up-names (need.at·returns c .In-Continue-count))) in
+    record { judged = judged (c .args .bytes .now) (accepted _) (writes a u); sized = long a u }

@@ -1,0 +1,6 @@
+use mathlib.Core.Path.{_∙_}
+use Rattle.label.specs.Laws.{width-same}
+use Rattle.label.proofs.kinds.WidthLabel.start.Needs as need
+
+pub returns : need.returns
+returns c = width-same _ _ (c .of .ensures)
