@@ -3,6 +3,8 @@ ghost use Rattle.bench.specs.Counted.{Counts};
 use session::reader::read;
 use std::alloc::Global;
 
+pub mod channel;
+
 /// Reads a session file, and answers how many links and steps it has together; 0 where it was not accepted.
 #[unsafe(no_mangle)]
 pub extern "C" fn bench_read(heap: Global, bytes: &[u8]) -> usize
