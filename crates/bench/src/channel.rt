@@ -29,7 +29,7 @@ fn drain<C: Channel<u32>>(c: &mut C, first: u32, count: u32) -> Result<u64, Chan
     for k in 0..count {
         let pick = (first.wrapping_add(k) % 65_536) as u16;
         let item = c.take(pick.wrapping_mul(7))?;
-        sum = item.parts as u64;
+        sum = sum.wrapping_add(item.parts as u64);
     }
     Ok(sum)
 }
