@@ -2,6 +2,8 @@
 //!
 //! A line `put N` puts N, a line `take N` takes with the pick N. The answers of queue, stack and picked stand on one
 //! line: `+` and the number waiting after a put, the item taken after a take, or `!` and the number of the refusal.
+#![tactic(auto)]
+
 use anyhow::anyhow;
 use channel::channel::Channel;
 use channel::item::{ChannelFault, Item};

@@ -1,4 +1,6 @@
 //! What the speed comparisons of `bench/` call from Rust.
+#![tactic(auto)]
+
 ghost use Rattle.bench.specs.Counted.{Counts};
 
 use session::session::Room;

@@ -1,4 +1,6 @@
 //! The credit detector: termination detection by credit recovery.
+#![tactic(auto)]
+
 pub mod credit;
 mod holders;
 mod places;

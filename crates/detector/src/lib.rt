@@ -1,4 +1,6 @@
 //! Termination detectors: the trait, what a detector means, the laws that make an announcement right, and its faults.
+#![tactic(auto)]
+
 pub mod detector;
 pub mod fault;
 pub mod over;

@@ -1,4 +1,6 @@
 //! What every fault of the engine has in common: the layer that it comes from, and checks that stand in an order.
+#![tactic(auto)]
+
 ghost use Rattle.std.specs.Prelude.{◌≡◌};
 ghost use Rattle.fault.specs.Layers.{layer_word};
 

@@ -1,4 +1,6 @@
 //! Label kinds: what the nodes of a mesh pass on and improve.
+#![tactic(auto)]
+
 pub mod cost;
 pub mod kinds;
 pub mod label;

@@ -1,4 +1,6 @@
 //! Reads a session file from standard input and prints the session in the standard column order, or its fault.
+#![tactic(auto)]
+
 use session::session::Room;
 use standard::report::{report, report_length};
 use std::io::{Read, Write};

@@ -3,6 +3,8 @@
 //! The archive is made of lines: `case NAME` begins a file, `t PIECE` appends a piece of it, and `r COUNT PIECE` appends
 //! the piece so many times. In a piece a backslash and a letter stand for a byte that a line of text can't show.
 //! A text of more than 400 bytes is printed by its length and a sum.
+#![tactic(auto)]
+
 use anyhow::anyhow;
 use session::session::Room;
 use standard::report::{report, report_length};

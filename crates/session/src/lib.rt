@@ -1,4 +1,6 @@
 //! Session files: read, checked, and as a type that keeps the rules.
+#![tactic(auto)]
+
 mod columns;
 mod lines;
 pub mod reader;

@@ -1,3 +1,5 @@
 //! Sessions written in the standard column order, and what the program `normalize` prints.
+#![tactic(auto)]
+
 mod parts;
 pub mod report;

@@ -1,4 +1,6 @@
 //! Text in byte slices: numbers in decimal, lines of fields, and writing into a caller's output.
+#![tactic(auto)]
+
 pub mod cut;
 pub mod number;
 pub mod output;
