@@ -1,5 +1,5 @@
 -- An announcement says exactly that all is over.
-use Rattle.std.proofs.Common.{◌≡◌, ℕ, Bool, true, List, [], sym, ◌∙◌, subst, subst₂}
+use Rattle.std.proofs.Common.{◌≡◌, ℕ, Bool, List, sym, ◌∙◌, subst₂}
 use Rattle.detector.specs.Meaning.{Meaning}
 use Rattle.detector.specs.Laws.{Lawful, ExactlyOver}
 

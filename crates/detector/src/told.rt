@@ -19,7 +19,7 @@ pub enum Call {
 
 /// Makes a call; the answer is the mark or the item that it answers, or nothing.
 pub fn make<D: Detector>(d: &mut D, call: Call) -> Result<Option<u16>, DetectorFault>
-    ensures { Makes meaning d.old call result d.new }
+    ensures { Makes D.meaning d.old call result d.new }
 {
     match call {
         Call::Sent(node) => Ok(Some(d.sent(node)?)),

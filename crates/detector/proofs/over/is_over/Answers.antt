@@ -3,6 +3,6 @@ use Rattle.detector.proofs.over.is_over.Goals as goal
 
 pub returns : goal.returns
 returns g c = record {
-  value = c.has-announced.ensures;
-  exact = exactly_over g.D.Detector.meaning g.met.D.Detector.lawful c.args.d.now c.has-announced.result c.has-announced.ensures;
+  value = c.has_announced.ensures;
+  exact = exactly_over g.D.Detector.meaning g.met.D.Detector.lawful c.args.d.now c.has_announced.result c.has_announced.ensures;
 }
