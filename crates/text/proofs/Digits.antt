@@ -1,5 +1,5 @@
 -- What digits say of the number that they write.
-use Rattle.std.proofs.Common.{◌≡◌, ℕ, ◌+◌, ◌-◌, ◌*◌, ◌^◌, ◌<◌, ◌≤◌, List, [], ◌∷◌, ◌++◌, length, get_or, take, decimal, sym, refl, ap, ◌∙◌, subst, ⊎_elim, arith}
+use Rattle.std.proofs.Common.{◌≡◌, ℕ, ◌+◌, ◌-◌, ◌*◌, ◌^◌, ◌<◌, ◌≤◌, List, length, get_or, take, decimal, sym, ap, ◌∙◌, subst, ⊎_elim, arith}
 use Rattle.std.specs.Str.Parse.{digits_value, AllDigits}
 use Rattle.std.specs.Int.{IsInRange}
 use Rattle.std.specs.Char.{digit_value as digitValue}
@@ -7,7 +7,7 @@ use Rattle.std.proofs.lemmas.Str.Parse.{IsNumeralModel, numerals_by_value, tells
 use Rattle.std.proofs.lemmas.Int.Digits.{digits_more, digits_value_more}
 use Rattle.std.proofs.lemmas.List.{take_all}
 use Rattle.std.proofs.lemmas.Bool.{cases_order, cases_lt}
-use Rattle.std.proofs.str.Classes.{value_of as value-of-digit}
+use Rattle.std.proofs.lemmas.Str.{digit_value_digit}
 use Rattle.std.proofs.lemmas.Fmt.{digits_decimal, digits_value-decimal, decimal-digits_value, first_decimal, decimal_nonempty, decimal_digit}
 use Rattle.text.specs.Decimal.{Writes}
 
@@ -64,7 +64,7 @@ module _ (low high : ℕ) (text : List ℕ) (h : high < 2 ^ 16) where
       record { is = sym (decimal-digits_value own text ds some zero (omega arith)) ∙ ap decimal is; least = l; most = m }
 
 digit_value : (c : ℕ) → 48 ≤ c → c ≤ 57 → digitValue c ≡ c - 48
-digit_value c l m = value-of-digit c (c - 48) (omega arith) (λ _. omega arith) (λ k. absurd (omega arith))
+digit_value c l m = omega (arith, digit_value_digit c (l, m))
 
 module _ (high : ℕ) (text : List ℕ) (i v : ℕ) (lt : i < length text) (s : Sofar high (take i text) v) (l : 48 ≤ get_or text i 0) (m : get_or text i 0 ≤ 57) where
   more_digits : AllDigits 10 (take (i + 1) text)

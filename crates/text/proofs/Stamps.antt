@@ -1,6 +1,6 @@
 -- One text written after another.
-use Rattle.std.proofs.Common.{◌≡◌, ℕ, suc, ◌+◌, ◌-◌, ◌^◌, ◌<◌, ◌≤◌, List, [], ◌∷◌, ◌++◌, length, take, drop, set, sym, refl, ap, ◌∙◌, subst, append_assoc, add-zero, add_assoc, zero-add, arith}
-use Rattle.std.proofs.lemmas.List.{length-append, length-set, set_split, set_past, take_more_set, drop-set-lt, take-append-drop, drop-drop}
+use Rattle.std.proofs.Common.{◌≡◌, ℕ, suc, ◌+◌, ◌^◌, ◌<◌, ◌≤◌, List, [], ◌∷◌, ◌++◌, length, take, drop, set, sym, refl, ap, ◌∙◌, append_assoc, add-zero, add_assoc, zero-add, arith}
+use Rattle.std.proofs.lemmas.List.{length-append, length-set, take_more_set, drop-set-lt, take-append-drop}
 use Rattle.text.specs.Output.{stamped, Puts}
 
 pub stamped_on : (old : List ℕ) (at : ℕ) (s t : List ℕ) → stamped (stamped old at s) (at + length s) t ≡ stamped old at (s ++ t)

@@ -1,7 +1,7 @@
-use Rattle.std.proofs.Common.{◌≡◌, ℕ, ◌+◌, ◌-◌, ◌<◌, ◌≤◌, List, [], ◌∷◌, ◌++◌, length, get_or, take, drop, sym, refl, ap, ◌∙◌, subst, arith}
+use Rattle.std.proofs.Common.{◌≡◌, ◌+◌, ◌-◌, ◌<◌, [], ◌∷◌, ◌++◌, length, take, drop, sym, ap, ◌∙◌, subst, arith}
 use Rattle.std.proofs.lemmas.List.{length_push, take_rest}
 use Rattle.text.specs.Lines.{Fields}
-use Rattle.text.proofs.Cuts.{Sofar, Reach, start, one_more, done, no_line, endless, other_stop, led, found, found_marks, found_field, nothing, all_found, split, stop_mark, line_at}
+use Rattle.text.proofs.Cuts.{Reach, one_more, done, no_line, endless, other_stop, found, found_marks, found_field, nothing, all_found, split, stop_mark, line_at}
 use Rattle.text.proofs.cut.first_line.Goals as goal
 use Rattle.text.proofs.cut.first_line.Goals.{After-span-n, then-n-eq0-via-then-n-eq0, then-n-eq0-via-else-n-eq0+then-end-text}
 

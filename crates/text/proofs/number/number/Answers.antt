@@ -1,4 +1,4 @@
-use Rattle.std.proofs.Common.{◌≡◌, ◌+◌, ◌^◌, ◌<◌, ◌≤◌, length, get_or, take, sym, ◌∙◌, subst, ⊎_elim, arith, true-eqb}
+use Rattle.std.proofs.Common.{◌+◌, ◌<◌, length, take, sym, ◌∙◌, subst, ⊎_elim, arith, true-eqb}
 use borrow.Author.Tests.{eqb-false}
 use Rattle.std.proofs.lemmas.Bool.{both_ways, cases_lt}
 use Rattle.text.proofs.Digits.{Sofar, byte_of, some_of, zero_alone, value_small, done, one_more, past}
@@ -18,8 +18,8 @@ loop-b-preserved c =
       | else-value-most w ↦ subst S (sym w.value-is) (past _ _ _ _ c.loop-b-test.true c.loop-b.invariant c.if-b-lt48.false c.if-b-gt57.false w.if-value-most.false)
     ]
 
-pub returns-then-is-empty : goal.returns-then-is-empty
-returns-then-is-empty c (n, w) = let k = some_of _ _ _ (omega arith) n w in omega (arith, true-eqb _ 0 c.if-is-empty.ensures)
+pub returns-then-is_empty : goal.returns-then-is_empty
+returns-then-is_empty c (n, w) = let k = some_of _ _ _ (omega arith) n w in omega (arith, true-eqb _ 0 c.if-is_empty.ensures)
 
 pub returns-then-padded : goal.returns-then-padded
 returns-then-padded c (n, w) =
@@ -34,7 +34,7 @@ returns-then-value-most-2 c (n, w) = let k = value_small _ _ _ (omega arith) _ _
 
 pub returns : goal.returns
 returns c =
-    let some : 0 < length c.args.text.now = omega (arith, eqb-false _ _ (sym c.is-empty.ensures ∙ c.if-is-empty.false)) in
+    let some : 0 < length c.args.text.now = omega (arith, eqb-false _ _ (sym c.is_empty.ensures ∙ c.if-is_empty.false)) in
     done _ _ _ (omega arith) _ _ c.loop-b-test.false c.loop-b.invariant some
     (λ z. ⊎_elim (λ (long : 1 < length c.args.text.now). absurd (both_ways _ c.if-padded.false (c.padded.ensures.1 (long, z)))) (λ short. omega arith) (cases_lt 1 (length c.args.text.now)))
     c.if-value-low.false c.if-value-most-2.false

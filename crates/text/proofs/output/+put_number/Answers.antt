@@ -4,7 +4,7 @@ use Rattle.text.proofs.Stamps.{then}
 use Rattle.text.proofs.output.+put_number.Goals as goal
 
 pub returns-then-n-lt10 : goal.returns-then-n-lt10
-returns-then-n-lt10 t c = rw (decimal_digit c.args.n c.if-n-lt10.true) c.put-byte.ensures
+returns-then-n-lt10 t c = rw (decimal_digit c.args.n c.if-n-lt10.true) c.put_byte.ensures
 
 pub returns : goal.returns
-returns t c = rw (decimal_step c.args.n c.if-n-lt10.false (omega arith)) (then c.put-number-end.ensures c.put-byte-2.ensures)
+returns t c = rw (decimal_step c.args.n c.if-n-lt10.false (omega arith)) (then c.put_number-end.ensures c.put_byte-2.ensures)

@@ -1,4 +1,4 @@
-use Rattle.std.proofs.Common.{◌≡◌, ◌+◌, ◌%◌, sym, ◌∙◌, mod-eq_of_lt, arith}
+use Rattle.std.proofs.Common.{sym, ◌∙◌, mod-eq_of_lt}
 use Rattle.std.proofs.lemmas.List.{set_past}
 use Rattle.text.proofs.output.put_byte.Goals as goal
 use Rattle.text.proofs.output.put_byte.Goals.{then-at-out, else-at-out}

@@ -1,4 +1,4 @@
-use Rattle.std.proofs.Common.{◌≡◌, sym, refl, subst, arith}
+use Rattle.std.proofs.Common.{subst}
 use Rattle.std.proofs.lemmas.List.{take_more, take_all}
 use Rattle.text.specs.Output.{Puts}
 use Rattle.text.proofs.Stamps.{none, then}
