@@ -1,14 +1,14 @@
 -- A mesh with one link more.
 use Rattle.std.proofs.Common.{◌≡◌, ℕ, ◌+◌, ◌*◌, ◌<◌, ◌≤◌, Bool, true, false, ◌⊎◌, List, [], ◌∷◌, ◌++◌, length, get_or, take, drop, set, replicate, sym, refl, ap, ◌∙◌, subst, inl, inr, ⊎_elim, arith}
-use Rattle.std.proofs.lemmas.List.{length_push, get_or_push, get_or_append_left, get_or_default, take_more, drop_more, drop_all, take_all, length-take-le, get_or-set_same, get_or-set_other, get_or-replicate}
+use Rattle.std.proofs.lemmas.List.{length_push, get_or_push, get_or_append_left, get_or_default, take_more, drop_more, drop_all, length-take-le, get_or-set_same, get_or-set_other, get_or-replicate}
 use Rattle.std.proofs.lemmas.Bool.{cases_lt, cases_eq, false≢true}
-use Rattle.fault.specs.Checks.{Check, check, Passes, Fails}
+use Rattle.fault.specs.Checks.{Check, Passes, Fails}
 use Rattle.fault.proofs.Ordered.{passes_both, fails_first, fails_later}
 use Rattle.mesh.specs.declared.link.Link.{Link}
 use Rattle.mesh.specs.declared.link.LinkFault.{LinkFault}
 use Rattle.mesh.specs.declared.link.MeshFault.{MeshFault}
-use Rattle.mesh.specs.declared.link.MeshFault.TheVariants.{Nodes, Root, BadLink}
-use Rattle.mesh.specs.Rules.{EveryLink, PairsOnce, Joins, SamePair, FreeKnown, UsedKnown}
+use Rattle.mesh.specs.declared.link.MeshFault.TheVariants.{BadLink}
+use Rattle.mesh.specs.Rules.{EveryLink, PairsOnce, Joins, FreeKnown, UsedKnown}
 use Rattle.mesh.specs.Checks.{link_checks, links_checks, numbered}
 
 -- What holds of every link and of one more, holds of all of them.

@@ -3,5 +3,5 @@ use borrow.Author.Tests.{eqb-false}
 use Rattle.std.proofs.lemmas.List.{nil_from_length}
 use Rattle.scan.proofs.lines.next_line.Goals as goal
 
-pub returns-then-is-empty : goal.returns-then-is-empty
-returns-then-is-empty c = inl (nil_from_length c.args.rest.now (true-eqb _ 0 c.if-is-empty.ensures), refl)
+pub returns-then-is_empty : goal.returns-then-is_empty
+returns-then-is_empty c = inl (nil_from_length c.args.rest.now (true-eqb _ 0 c.if-is_empty.ensures), refl)

@@ -23,10 +23,10 @@ long c = c.loop-i.invariant.2.1.1 ∙ sym (length-map c.args.words.now (λ x. x.
 within : (c : After-find) → c.loop-i.-i < length c.loop-i.invariant.2.0
 within c = omega (arith, c.loop-i.invariant.2.1.1, c.loop-i-test.true)
 
-cut : (c : After-find) → (c.first-field.result.0.now ≡ get_or c.loop-i.invariant.2.0 c.loop-i.-i []) × (c.first-field.result.1.now ≡ spaced (drop (c.loop-i.-i + 1) c.loop-i.invariant.2.0))
+cut : (c : After-find) → (c.first_field.result.0.now ≡ get_or c.loop-i.invariant.2.0 c.loop-i.-i []) × (c.first_field.result.1.now ≡ spaced (drop (c.loop-i.-i + 1) c.loop-i.invariant.2.0))
 cut c =
     let i = c.loop-i.invariant.2 in
-    next_field c.args.line.now i.0 c.loop-i.-i c.loop-i.rest.now c.first-field.result.0.now c.first-field.result.1.now i.1.0 (within c) i.2 c.first-field.ensures
+    next_field c.args.line.now i.0 c.loop-i.-i c.loop-i.rest.now c.first_field.result.0.now c.first_field.result.1.now i.1.0 (within c) i.2 c.first_field.ensures
 
 -- fields in no order of the words make a line in no order of them
 no_line : (c : After-find) → NoOrder (texts c.args.words.now) c.loop-i.invariant.2.0 → ((o : List ℕ) × Order (length (texts c.args.words.now)) o × (c.args.line.now ≡ spaced (arranged o (texts c.args.words.now)))) → ⊥
@@ -34,12 +34,12 @@ no_line c none (o, q, e) =
     let some : 0 < length (texts c.args.words.now) = omega (arith, length-map c.args.words.now (λ x. x.now), c.requires.0.1.1) in
     none o q (fields_same c.args.line.now _ _ c.loop-i.invariant.2.1.0 (cut_of o _ _ q some c.requires.0.1.0 e).0)
 
-pub returns-in-default : goal.returns-in-default
-returns-in-default c =
-    let p = (goal.at.returns-in-default c).After-find in
+pub returns-in_default : goal.returns-in_default
+returns-in_default c =
+    let p = (goal.at.returns-in_default c).After-find in
     record {
       room = c.loop-i.invariant.0 ∙ c.clear.ensures.capacity;
-      finds = (no_line p (unknown _ _ _ _ c.requires.0.0 (long p) (within p) c.loop-i.invariant.2.3 (λ k l e. c.in-default.ensures k l (e ∙ sym (cut p).0))), refl);
+      finds = (no_line p (unknown _ _ _ _ c.requires.0.0 (long p) (within p) c.loop-i.invariant.2.3 (λ k l e. c.in_default.ensures k l (e ∙ sym (cut p).0))), refl);
     }
 
 pub returns-then-contains : goal.returns-then-contains
@@ -60,13 +60,13 @@ loop-i-preserved c =
     let p = (goal.at.loop-i-preserved c).After-find in
     let h = c.in-Some.ensures in
     let i = c.loop-i.invariant in (
-      c.push-reserved.ensures.capacity ∙ i.0,
-      c.push-reserved.ensures.len ∙ ap (λ n. n + 1) i.1,
+      c.push_reserved.ensures.capacity ∙ i.0,
+      c.push_reserved.ensures.len ∙ ap (λ n. n + 1) i.1,
       (
         i.2.0,
         i.2.1,
         (cut p).1,
-        subst (Sofar (texts c.args.words.now) i.2.0 (c.loop-i.-i + 1)) (sym c.push-reserved.ensures.items)
+        subst (Sofar (texts c.args.words.now) i.2.0 (c.loop-i.-i + 1)) (sym c.push_reserved.ensures.items)
             (one_more _ _ _ _ c.requires.0.0 (long p) (within p) i.2.3 c.in-Some.k h.0 (h.1 ∙ (cut p).0)
             (λ has. both_ways _ c.if-contains.false ((contains_decides eqb Decides-eqb _ _ _ c.contains.ensures.cases).1 (subst (λ l. Has l c.in-Some.k) (sym c.deref.ensures.value) has)))),
       ),

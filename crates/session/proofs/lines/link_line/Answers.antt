@@ -8,18 +8,18 @@ use Rattle.format.specs.Tables.{link_takes}
 use Rattle.format.specs.Verdict.{LinkLine, field_checks}
 use Rattle.format.proofs.Judging.{HasCut, link_fails}
 use Rattle.session.proofs.lines.link_line.Goals as goal
-use Rattle.session.proofs.lines.link_line.Goals.{After-is-full, After-fill, In-ok-fill}
+use Rattle.session.proofs.lines.link_line.Goals.{After-is_full, After-fill, In-ok-fill}
 
 cut : (c : After-fill) → HasCut 4 c.args.line.now
-cut c = let f = c.in-ok-has-fields.ensures in (f.0, subst (λ n. Cut n c.args.line.now f.0) c.requires.0.long f.1)
+cut c = let f = c.in_ok-has_fields.ensures in (f.0, subst (λ n. Cut n c.args.line.now f.0) c.requires.0.long f.1)
 
 room : (c : After-fill) → length (vec_items c.args.mesh.now.links) < 512
-room c = leb-false 512 (length (vec_items c.args.mesh.now.links)) (sym c.is-full.ensures ∙ c.if-is-full.false)
+room c = leb-false 512 (length (vec_items c.args.mesh.now.links)) (sym c.is_full.ensures ∙ c.if-is_full.false)
 
 written : (c : In-ok-fill) → LinkLine c.args.order.now c.args.mesh.now.nodes c.args.line.now c.fill.new.row.link
 written c =
-    let f = c.in-ok-fill.ensures.fills in
-    let n = c.in-ok-fill.ensures.base in
+    let f = c.in_ok-fill.ensures.fills in
+    let n = c.in_ok-fill.ensures.base in
     let m = c.args.mesh.now in
     record {
       is = f.is;
@@ -30,32 +30,32 @@ written c =
       );
     }
 
-pub returns-in-err-fill : goal.returns-in-err-fill
-returns-in-err-fill c =
-    let a = (goal.at.returns-in-err-fill c).After-fill in
-    let p = err_from_is_err_and c.from-residual-in-err-fill.result c.from-residual-in-err-fill.ensures.1 in
+pub returns-in_err-fill : goal.returns-in_err-fill
+returns-in_err-fill c =
+    let a = (goal.at.returns-in_err-fill c).After-fill in
+    let p = err_from_is_err_and c.from-residual-in_err-fill.result c.from-residual-in_err-fill.ensures.1 in
     record {
       nodes = refl;
       root = refl;
-      joins = rw (p.1, p.2) (inr (cut a, inr (room a, fails_first (field_checks (link_takes c.args.mesh.now.nodes) c.args.line.now 0 c.args.order.now) _ _ c.in-err-fill.ensures.fills)), refl);
+      joins = rw (p.1, p.2) (inr (cut a, inr (room a, fails_first (field_checks (link_takes c.args.mesh.now.nodes) c.args.line.now 0 c.args.order.now) _ _ c.in_err-fill.ensures.fills)), refl);
     }
 
-pub returns-in-err-join : goal.returns-in-err-join
-returns-in-err-join c =
-    let a = (goal.at.returns-in-err-join c).After-fill in
-    let b = (goal.at.returns-in-err-join c).In-ok-fill in
-    let p = err_from_is_err_and c.from-residual-in-err-join.result c.from-residual-in-err-join.ensures.1 in
-    let e = c.in-err-join.ensures in
+pub returns-in_err-join : goal.returns-in_err-join
+returns-in_err-join c =
+    let a = (goal.at.returns-in_err-join c).After-fill in
+    let b = (goal.at.returns-in_err-join c).In-ok-fill in
+    let p = err_from_is_err_and c.from-residual-in_err-join.result c.from-residual-in_err-join.ensures.1 in
+    let e = c.in_err-join.ensures in
     record {
       nodes = e.nodes;
       root = e.root;
-      joins = rw (p.1, p.2) (link_fails c.args.order.now c.args.mesh.now.nodes (vec_items c.args.mesh.now.links) c.args.line.now c.fill.new.row.link c.in-err-join.field-0.0 c.requires.0 c.args.mesh.now.many (cut a) (room a) c.in-ok-fill.ensures.fills.passes (written b) e.links.0, e.links.1);
+      joins = rw (p.1, p.2) (link_fails c.args.order.now c.args.mesh.now.nodes (vec_items c.args.mesh.now.links) c.args.line.now c.fill.new.row.link c.in_err-join.field-0.0 c.requires.0 c.args.mesh.now.many (cut a) (room a) c.in_ok-fill.ensures.fills.passes (written b) e.links.0, e.links.1);
     }
 
 pub returns : goal.returns
 returns c =
     let b = (goal.at.returns c).In-ok-fill in
-    let e = c.in-ok-join.ensures in
+    let e = c.in_ok-join.ensures in
     record {
       nodes = e.nodes;
       root = e.root;

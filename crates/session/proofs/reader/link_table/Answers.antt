@@ -13,30 +13,30 @@ use Rattle.session.proofs.reader.link_table.Goals as goal
 pub loop-count-init : goal.loop-count-init
 loop-count-init c = (refl, refl, λ bytes o h n u. subst (λ ls. UpTo bytes (at_links o h c.args.order.now ls) c.args.text.now) (sym c.requires.1) u)
 
-pub returns-in-err-count : goal.returns-in-err-count
-returns-in-err-count c =
+pub returns-in_err-count : goal.returns-in_err-count
+returns-in_err-count c =
     let p = err_from_is_err_and c.from-residual.result c.from-residual.ensures.1 in
     let m = c.loop-count.mesh in
     record {
       nodes = c.loop-count.invariant.0;
       root = c.loop-count.invariant.1;
-      reads = rw (p.1, p.2) (λ bytes o h e u. refuse_next bytes (at_links o h c.args.order.now (vec_items m.links)) c.loop-count.rest.now _ c.in-err-count.field-0.0 (c.loop-count.invariant.2 bytes o h e u) (inl (λ x. x)) (omega (arith, c.len-number.ensures, m.links.ok.0)) c.in-err-count.ensures);
+      reads = rw (p.1, p.2) (λ bytes o h e u. refuse_next bytes (at_links o h c.args.order.now (vec_items m.links)) c.loop-count.rest.now _ c.in_err-count.field-0.0 (c.loop-count.invariant.2 bytes o h e u) (inl (λ x. x)) (omega (arith, c.len-number.ensures, m.links.ok.0)) c.in_err-count.ensures);
     }
 
-pub returns-in-err-at-line : goal.returns-in-err-at-line
-returns-in-err-at-line c =
-    let p = err_from_is_err_and c.from-residual-in-err-at-line.result c.from-residual-in-err-at-line.ensures.1 in
+pub returns-in_err-at_line : goal.returns-in_err-at_line
+returns-in_err-at_line c =
+    let p = err_from_is_err_and c.from-residual-in_err-at_line.result c.from-residual-in_err-at_line.ensures.1 in
     let m = c.loop-count.mesh in
-    let line = c.in-ok-count.line.now in
-    let l = line_err (4 + c.len-number.result) c.link-line.result c.at-line.result c.in-err-at-line.field-0.0 _ (λ e. Fails (link_line_checks c.args.order.now m.nodes (vec_items m.links) line) e × (vec_items c.link-line.new.mesh.links ≡ vec_items m.links)) c.at-line.ensures c.in-err-at-line.was c.link-line.ensures.joins in
-    let h = c.in-ok-count.ensures in
-    let digit : digit_first line ≡ true = sym c.is-link-line.ensures ∙ c.if-not-is-link-line.false in
+    let line = c.in_ok-count.line.now in
+    let l = line_err (4 + c.len-number.result) c.link_line.result c.at_line.result c.in_err-at_line.field-0.0 _ (λ e. Fails (link_line_checks c.args.order.now m.nodes (vec_items m.links) line) e × (vec_items c.link_line.new.mesh.links ≡ vec_items m.links)) c.at_line.ensures c.in_err-at_line.was c.link_line.ensures.joins in
+    let h = c.in_ok-count.ensures in
+    let digit : digit_first line ≡ true = sym c.is_link_line.ensures ∙ c.if-not-is_link_line.false in
     let n : 4 + c.len-number.result ≡ 4 + length (vec_items m.links) = omega (arith, c.len-number.ensures, m.links.ok.0) in
     record {
-      nodes = c.link-line.ensures.nodes ∙ c.loop-count.invariant.0;
-      root = c.link-line.ensures.root ∙ c.loop-count.invariant.1;
+      nodes = c.link_line.ensures.nodes ∙ c.loop-count.invariant.0;
+      root = c.link_line.ensures.root ∙ c.loop-count.invariant.1;
       reads = rw (p.1, p.2) (λ bytes o k e u.
-          refuse bytes (at_links o k c.args.order.now (vec_items m.links)) c.loop-count.rest.now line c.in-ok-count.after.now l.0 c.in-err-at-line.field-0.0
+          refuse bytes (at_links o k c.args.order.now (vec_items m.links)) c.loop-count.rest.now line c.in_ok-count.after.now l.0 c.in_err-at_line.field-0.0
           (c.loop-count.invariant.2 bytes o k e u) h.0 h.1.0 h.1.1.0
           (subst (λ cs. Fails cs l.0) (link_line_at o k c.args.order.now (vec_items m.links) line digit)
           (subst (λ x. Fails (link_line_checks c.args.order.now x (vec_items m.links) line) l.0) (c.loop-count.invariant.0 ∙ sym e) l.1.0))
@@ -44,19 +44,19 @@ returns-in-err-at-line c =
     }
 
 pub loop-count-smaller : goal.loop-count-smaller
-loop-count-smaller c = shorter c.loop-count.rest.now c.in-ok-count.line.now c.in-ok-count.after.now c.in-ok-count.ensures.0
+loop-count-smaller c = shorter c.loop-count.rest.now c.in_ok-count.line.now c.in_ok-count.after.now c.in_ok-count.ensures.0
 
 pub loop-count-preserved : goal.loop-count-preserved
 loop-count-preserved c =
     let m = c.loop-count.mesh in
-    let line = c.in-ok-count.line.now in
+    let line = c.in_ok-count.line.now in
     let order = c.args.order.now in
-    let g = line_ok (4 + c.len-number.result) c.link-line.result c.at-line.result c.in-ok-at-line.field-0
-    (λ _. (l : Link) × LinkLine order m.nodes line l × (length (vec_items m.links) < 512) × EndsDiffer l × (Joins (vec_items m.links) l.from l.to → ⊥) × (vec_items c.link-line.new.mesh.links ≡ vec_items m.links ++ l ∷ [])) _
-    c.at-line.ensures c.in-ok-at-line.was c.link-line.ensures.joins in (
-      c.link-line.ensures.nodes ∙ c.loop-count.invariant.0,
-      c.link-line.ensures.root ∙ c.loop-count.invariant.1,
-      λ bytes o h e u. subst (λ ls. UpTo bytes (at_links o h order ls) c.in-ok-count.after.now) (sym g.5)
-          (more_links bytes c.loop-count.rest.now line c.in-ok-count.after.now c.in-ok-count.ensures.0 o h order (vec_items m.links) g.0
+    let g = line_ok (4 + c.len-number.result) c.link_line.result c.at_line.result c.in_ok-at_line.field-0
+    (λ _. (l : Link) × LinkLine order m.nodes line l × (length (vec_items m.links) < 512) × EndsDiffer l × (Joins (vec_items m.links) l.from l.to → ⊥) × (vec_items c.link_line.new.mesh.links ≡ vec_items m.links ++ l ∷ [])) _
+    c.at_line.ensures c.in_ok-at_line.was c.link_line.ensures.joins in (
+      c.link_line.ensures.nodes ∙ c.loop-count.invariant.0,
+      c.link_line.ensures.root ∙ c.loop-count.invariant.1,
+      λ bytes o h e u. subst (λ ls. UpTo bytes (at_links o h order ls) c.in_ok-count.after.now) (sym g.5)
+          (more_links bytes c.loop-count.rest.now line c.in_ok-count.after.now c.in_ok-count.ensures.0 o h order (vec_items m.links) g.0
           (c.loop-count.invariant.2 bytes o h e u) (subst (λ x. LinkLine order x line g.0) (c.loop-count.invariant.0 ∙ sym e) g.1) g.2 g.3 g.4),
     )

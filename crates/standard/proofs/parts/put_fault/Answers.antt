@@ -9,7 +9,7 @@ use Rattle.standard.proofs.parts.put_fault.Goals as goal
 pub returns : goal.returns
 returns c =
     same (after4 (codes "fault layer line field\n") (decimal (fault_number c.args.fault)) (layer_word Reader) (decimal (fault_line c.args.fault)) (decimal (fault_field c.args.fault)))
-    (then (then (then (then c.put-bytes-a.ensures (same (ap (λ n. decimal n ++ 32 ∷ []) c.number.ensures) c.put-number-field-b.ensures))
-    (same (ap (λ w. w ++ 32 ∷ []) (c.word.ensures ∙ ap layer_word c.layer.ensures)) c.put-word-field-c.ensures))
-    (same (ap (λ n. decimal n ++ 32 ∷ []) c.line.ensures) c.put-number-field-d.ensures))
-    (same (ap (λ n. decimal n ++ 10 ∷ []) c.field.ensures) c.put-number-field.ensures))
+    (then (then (then (then c.put_bytes-a.ensures (same (ap (λ n. decimal n ++ 32 ∷ []) c.number.ensures) c.put_number_field-b.ensures))
+    (same (ap (λ w. w ++ 32 ∷ []) (c.word.ensures ∙ ap layer_word c.layer.ensures)) c.put_word_field-c.ensures))
+    (same (ap (λ n. decimal n ++ 32 ∷ []) c.line.ensures) c.put_number_field-d.ensures))
+    (same (ap (λ n. decimal n ++ 10 ∷ []) c.field.ensures) c.put_number_field.ensures))

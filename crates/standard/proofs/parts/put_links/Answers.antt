@@ -12,7 +12,7 @@ loop-link-init c = none c.args.out.now c.args.at
 
 pub loop-link-preserved : goal.loop-link-preserved
 loop-link-preserved c =
-    same (sym (rows_more (row (0 ∷ 1 ∷ 2 ∷ 3 ∷ [])) link_values c.args.links.now c.loop-link.link-index _ c.loop-link-test.true)) (then c.loop-link.invariant c.put-link-end.ensures)
+    same (sym (rows_more (row (0 ∷ 1 ∷ 2 ∷ 3 ∷ [])) link_values c.args.links.now c.loop-link.link-index _ c.loop-link-test.true)) (then c.loop-link.invariant c.put_link-end.ensures)
 
 pub returns : goal.returns
 returns c = same (ap (λ t. flat_map (row (0 ∷ 1 ∷ 2 ∷ 3 ∷ [])) (map link_values t)) (take_all c.loop-link.link-index c.args.links.now c.loop-link-test.false)) c.loop-link.invariant

@@ -14,7 +14,7 @@ pub returns : goal.returns
 returns c =
     let s = c.args.session.now in
     same (tables (setting_text (0 ∷ 1 ∷ 2 ∷ 3 ∷ 4 ∷ []) (content s).setting) (row (0 ∷ 1 ∷ 2 ∷ 3 ∷ []) (names Links)) (flat_map (row (0 ∷ 1 ∷ 2 ∷ 3 ∷ [])) (map link_values (vec_items s.mesh.links))) (row (0 ∷ 1 ∷ []) (names Steps)) (flat_map (row (0 ∷ 1 ∷ [])) (map step_values (vec_items s.steps))))
-    (then (then (then (then c.put-setting-a.ensures c.put-bytes-b.ensures)
-    (same (ap (λ t. flat_map (row (0 ∷ 1 ∷ 2 ∷ 3 ∷ [])) (map link_values t)) c.deref.ensures.value) c.put-links-c.ensures))
-    c.put-bytes-d.ensures)
-    (same (ap (λ t. flat_map (row (0 ∷ 1 ∷ [])) (map step_values t)) c.deref-2.ensures.value) c.put-steps.ensures))
+    (then (then (then (then c.put_setting-a.ensures c.put_bytes-b.ensures)
+    (same (ap (λ t. flat_map (row (0 ∷ 1 ∷ 2 ∷ 3 ∷ [])) (map link_values t)) c.deref.ensures.value) c.put_links-c.ensures))
+    c.put_bytes-d.ensures)
+    (same (ap (λ t. flat_map (row (0 ∷ 1 ∷ [])) (map step_values t)) c.deref-2.ensures.value) c.put_steps.ensures))

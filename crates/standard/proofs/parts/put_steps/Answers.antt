@@ -12,7 +12,7 @@ loop-step-init c = none c.args.out.now c.args.at
 
 pub loop-step-preserved : goal.loop-step-preserved
 loop-step-preserved c =
-    same (sym (rows_more (row (0 ∷ 1 ∷ [])) step_values c.args.steps.now c.loop-step.step-index _ c.loop-step-test.true)) (then c.loop-step.invariant c.put-step-end.ensures)
+    same (sym (rows_more (row (0 ∷ 1 ∷ [])) step_values c.args.steps.now c.loop-step.step-index _ c.loop-step-test.true)) (then c.loop-step.invariant c.put_step-end.ensures)
 
 pub returns : goal.returns
 returns c = same (ap (λ t. flat_map (row (0 ∷ 1 ∷ [])) (map step_values t)) (take_all c.loop-step.step-index c.args.steps.now c.loop-step-test.false)) c.loop-step.invariant

@@ -5,4 +5,4 @@ use Rattle.standard.proofs.Pieces.{same}
 use Rattle.standard.proofs.report.put_report.Goals as goal
 
 pub returns-in-Ok : goal.returns-in-Ok
-returns-in-Ok c = same (ap (λ r. report_text (judgement r)) (sym c.in-Ok.is)) c.put-session.ensures
+returns-in-Ok c = same (ap (λ r. report_text (judgement r)) (sym c.in-Ok.is)) c.put_session.ensures

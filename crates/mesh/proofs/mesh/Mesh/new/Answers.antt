@@ -1,17 +1,17 @@
-use Rattle.std.proofs.Common.{◌≡◌, ◌+◌, [], ◌∷◌, ◌++◌, length, get_or, take, vec_items, sym, refl, ap, ◌∙◌, subst, inl, inr, arith}
+use Rattle.std.proofs.Common.{[], ◌∷◌, ◌++◌, get_or, take, sym, ap, ◌∙◌, subst, inr}
 use Rattle.std.proofs.lemmas.List.{take_more, take_all, get_or_default}
 use Rattle.fault.specs.Checks.{Passes, Fails}
 use Rattle.fault.proofs.Ordered.{passes_both}
 use Rattle.mesh.specs.declared.link.Link.{Link}
 use Rattle.mesh.specs.Checks.{link_checks, root_checks, links_checks}
-use Rattle.mesh.proofs.Grown.{Sofar, start, one_more, refused, done}
+use Rattle.mesh.proofs.Grown.{start, one_more, refused, done}
 use Rattle.mesh.proofs.mesh.Mesh.new.Goals as goal
 
 abbrev no_link : Link
 no_link = record { from = 0; to = 0; cost = 0; width = 0 }
 
 pub loop-k-init : goal.loop-k-init
-loop-k-init c = let h = c.in-ok-mesh.ensures in (h.0, h.1, h.2, h.3, start c.args.nodes c.args.links.now)
+loop-k-init c = let h = c.in_ok-mesh.ensures in (h.0, h.1, h.2, h.3, start c.args.nodes c.args.links.now)
 
 pub returns-in-Err : goal.returns-in-Err
 returns-in-Err c =
@@ -31,7 +31,7 @@ returns-in-Err c =
 pub loop-k-preserved : goal.loop-k-preserved
 loop-k-preserved c =
     let i = c.loop-k.invariant in
-    let e = c.in-default.ensures in
+    let e = c.in_default.ensures in
     let l = get_or c.args.links.now c.loop-k.k no_link in
     let is = get_or_default c.args.links.now c.loop-k.k l no_link c.loop-k-test.true in (
       i.0,
