@@ -13,9 +13,9 @@ use text::number::FieldFault;
 pub fn kind_of(text: &[u8]) -> Result<Kind, FieldFault>
     ensures { MatchResult result (λ w. text.now ≡ kind_word w) (λ _. ((w : AKind) → text.now ≢ kind_word w)) }
 {
-    if text == b"cost" {
+    if text == b"cost".as_slice() {
         Ok(Kind::Cost)
-    } else if text == b"width" {
+    } else if text == b"width".as_slice() {
         Ok(Kind::Width)
     } else {
         Err(FieldFault)
@@ -26,9 +26,9 @@ pub fn kind_of(text: &[u8]) -> Result<Kind, FieldFault>
 pub fn detector_of(text: &[u8]) -> Result<Detector, FieldFault>
     ensures { MatchResult result (λ w. text.now ≡ detector_word w) (λ _. ((w : ADetector) → text.now ≢ detector_word w)) }
 {
-    if text == b"tree" {
+    if text == b"tree".as_slice() {
         Ok(Detector::Tree)
-    } else if text == b"credit" {
+    } else if text == b"credit".as_slice() {
         Ok(Detector::Credit)
     } else {
         Err(FieldFault)
@@ -39,11 +39,11 @@ pub fn detector_of(text: &[u8]) -> Result<Detector, FieldFault>
 pub fn channel_of(text: &[u8]) -> Result<Channel, FieldFault>
     ensures { MatchResult result (λ w. text.now ≡ channel_word w) (λ _. ((w : AChannel) → text.now ≢ channel_word w)) }
 {
-    if text == b"queue" {
+    if text == b"queue".as_slice() {
         Ok(Channel::Queue)
-    } else if text == b"stack" {
+    } else if text == b"stack".as_slice() {
         Ok(Channel::Stack)
-    } else if text == b"picked" {
+    } else if text == b"picked".as_slice() {
         Ok(Channel::Picked)
     } else {
         Err(FieldFault)
@@ -54,11 +54,11 @@ pub fn channel_of(text: &[u8]) -> Result<Channel, FieldFault>
 pub fn action_of(text: &[u8]) -> Result<Action, FieldFault>
     ensures { MatchResult result (λ w. text.now ≡ action_word w) (λ _. ((w : AnAction) → text.now ≢ action_word w)) }
 {
-    if text == b"deliver" {
+    if text == b"deliver".as_slice() {
         Ok(Action::Deliver)
-    } else if text == b"work" {
+    } else if text == b"work".as_slice() {
         Ok(Action::Work)
-    } else if text == b"control" {
+    } else if text == b"control".as_slice() {
         Ok(Action::Control)
     } else {
         Err(FieldFault)
