@@ -1,13 +1,12 @@
 -- A row filled from the fields of a line, one column after another.
-use Rattle.std.proofs.Common.{◌≡◌, ℕ, zero, suc, ◌+◌, ◌<◌, ◌≤◌, List, [], ◌∷◌, map, length, get_or, drop, set, sym, refl, ap, ◌∙◌, subst, inl, inr, ⊎_elim, add-zero, arith}
+use Rattle.std.proofs.Common.{◌≡◌, ℕ, zero, suc, ◌+◌, ◌<◌, ◌≤◌, List, [], ◌∷◌, length, get_or, drop, set, sym, ap, ◌∙◌, subst, inl, inr, ⊎_elim, add-zero, arith}
 use Rattle.std.specs.List.{AllByRecursion as All}
 use Rattle.std.proofs.ByRecursion.{All-get_or, All-drop}
 use Rattle.std.proofs.lemmas.List.{length-map, length-set, get_or-map, get_or-set_same, get_or-set_other, same_lists, get_or_default, drop_more}
 use Rattle.std.proofs.lemmas.Bool.{cases_lt}
-use Rattle.fault.specs.Checks.{Check, Passes, Fails}
-use Rattle.text.specs.Lines.{Field, Fields, Cut, Parted, spaced}
+use Rattle.fault.specs.Checks.{Passes, Fails}
+use Rattle.text.specs.Lines.{Field, Fields, Parted, spaced}
 use Rattle.text.proofs.Cuts.{fields_same, first_of}
-use Rattle.vocab.specs.declared.faults.LineFault.{LineFault}
 use Rattle.vocab.specs.declared.faults.LineFault.TheVariants.{BadField}
 use Rattle.format.specs.Columns.{Order, arranged, FieldTakes}
 use Rattle.format.specs.Filling.{PutAt, Filled}

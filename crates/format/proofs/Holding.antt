@@ -1,5 +1,5 @@
 -- A row that keeps its ranges passes the checks of its fields; and what a line begins with.
-use Rattle.std.proofs.Common.{◌≡◌, ℕ, zero, suc, ◌+◌, ◌-◌, ◌^◌, ◌<◌, ◌≤◌, Bool, true, false, ◌&&◌, leb, List, [], ◌∷◌, ◌++◌, length, get_or, decimal, sym, refl, ap, ◌∙◌, subst, arith}
+use Rattle.std.proofs.Common.{◌≡◌, ℕ, zero, suc, ◌+◌, ◌^◌, ◌<◌, ◌≤◌, true, false, ◌&&◌, leb, List, [], ◌∷◌, ◌++◌, length, get_or, decimal, sym, refl, ◌∙◌, subst, arith}
 use Rattle.std.specs.List.{AllByRecursion as All}
 use Rattle.std.proofs.lemmas.Fmt.{digits_decimal, decimal_nonempty}
 use Rattle.std.proofs.ByRecursion.{All-get_or}
@@ -20,7 +20,6 @@ use Rattle.vocab.specs.Words.{names}
 use Rattle.format.specs.Content.{SettingInRange}
 use Rattle.format.specs.Verdict.{field_checks, digit_first}
 use Rattle.format.proofs.Fills.{fields_pass}
-use Rattle.format.proofs.Known.{names_fields}
 use Rattle.format.proofs.Orders.{cut_of}
 
 -- Each column of a row holds what it takes, so each field of its line does.

@@ -1,15 +1,15 @@
 -- The first check of a line that fails.
-use Rattle.std.proofs.Common.{◌≡◌, ℕ, ◌+◌, ◌<◌, ◌≤◌, List, [], ◌∷◌, ◌++◌, length, Ok, Err, Result, sym, refl, ap, ◌∙◌, subst, inl, inr, arith, MatchResult}
-use Rattle.fault.specs.Checks.{Check, Passes, Fails}
-use Rattle.fault.proofs.Ordered.{fails_first, fails_later}
+use Rattle.std.proofs.Common.{◌≡◌, ℕ, ◌+◌, ◌<◌, ◌≤◌, List, length, Ok, Err, Result, ap, subst, inl, inr, arith, MatchResult}
+use Rattle.fault.specs.Checks.{Passes, Fails}
+use Rattle.fault.proofs.Ordered.{fails_later}
 use Rattle.text.specs.Lines.{Cut, spaced}
 use Rattle.mesh.specs.declared.link.Link.{Link}
 use Rattle.mesh.specs.declared.link.LinkFault.{LinkFault}
-use Rattle.mesh.specs.Rules.{InRange, EndsDiffer, Joins}
+use Rattle.mesh.specs.Rules.{EndsDiffer, Joins}
 use Rattle.mesh.specs.Checks.{link_checks}
 use Rattle.vocab.specs.declared.kinds.Setting.{Setting}
 use Rattle.vocab.specs.declared.faults.LineFault.{LineFault}
-use Rattle.vocab.specs.declared.faults.LineFault.TheVariants.{Layout, WrongNames, BadField, BadLink}
+use Rattle.vocab.specs.declared.faults.LineFault.TheVariants.{WrongNames, BadField, BadLink}
 use Rattle.format.specs.Columns.{Order, arranged}
 use Rattle.format.specs.Tables.{setting_takes, link_takes}
 use Rattle.format.specs.Verdict.{names_checks, field_checks, setting_checks, link_line_checks, place_of, SettingLine, LinkLine}

@@ -1,12 +1,12 @@
 -- The words of the format: each is a field, and those of one list are apart.
-use Rattle.std.proofs.Common.{◌≡◌, ℕ, zero, suc, ◌^◌, ◌<◌, ◌≤◌, Bool, true, false, not, ◌&&◌, ltb, leb, List, [], ◌∷◌, length, get_or, decimal, sym, refl, ap, ◌∙◌, subst, arith}
+use Rattle.std.proofs.Common.{◌≡◌, ℕ, zero, suc, ◌^◌, ◌<◌, ◌≤◌, Bool, true, not, ◌&&◌, ltb, leb, List, [], ◌∷◌, length, get_or, decimal, sym, refl, ap, arith}
 use Rattle.std.specs.List.{AllByRecursion as All}
 use Rattle.std.specs.Str.{bytes_eq}
 use Rattle.std.proofs.lemmas.Fmt.{digits_decimal, decimal_nonempty}
 use Rattle.std.proofs.ByRecursion.{All-from_get_or}
 use Rattle.std.proofs.lemmas.Slice.Eq.{bytes_eq-Decides}
 use Rattle.std.proofs.lemmas.Str.Parse.{digit_at}
-use Rattle.std.proofs.lemmas.Bool.{leb-true, ltb-true, and_parts, true≢false, not-true, both_ways}
+use Rattle.std.proofs.lemmas.Bool.{leb-true, ltb-true, and_parts, not-true, both_ways}
 use Rattle.text.specs.Lines.{Mark, Field}
 use Rattle.text.proofs.Digits.{own}
 use Rattle.mesh.specs.declared.link.Link.{Link}

@@ -1,8 +1,8 @@
 -- The order of the columns does not change the length of a line, so it does not change that of a file.
-use Rattle.std.proofs.Common.{◌≡◌, ℕ, zero, suc, ◌+◌, ◌<◌, ◌≤◌, ◌⊎◌, List, [], ◌∷◌, ◌++◌, map, length, get_or, sym, refl, ap, ◌∙◌, subst, inl, inr, arith}
+use Rattle.std.proofs.Common.{◌≡◌, ℕ, zero, suc, ◌+◌, ◌<◌, List, [], ◌∷◌, ◌++◌, map, length, get_or, sym, refl, ap, ◌∙◌, subst, inl, inr, arith}
 use mathlib.Core.List.{Memᴰ}
 use Rattle.std.specs.List.{flat_map}
-use Rattle.std.proofs.lemmas.List.{length-append, length-map}
+use Rattle.std.proofs.lemmas.List.{length-append}
 use Rattle.text.specs.Lines.{spaced}
 use Rattle.vocab.specs.declared.kinds.Table.TheVariants.{Settings, Links, Steps}
 use Rattle.format.specs.Columns.{Order, arranged, row, table}
@@ -10,7 +10,7 @@ use Rattle.format.specs.Tables.{setting_values, link_values, step_values}
 use Rattle.vocab.specs.Words.{names}
 use Rattle.format.specs.Content.{Content, text, standard, setting_text, links_text, steps_text}
 use Rattle.format.proofs.Orders.{distinct, below}
-use Rattle.mesh.proofs.Pigeons.{Distinct, Without, find, pigeons, sum_over}
+use Rattle.mesh.proofs.Pigeons.{Distinct, find, pigeons, sum_over}
 
 -- the sum of g over the numbers below n
 abbrev upto : (ℕ → ℕ) → ℕ → ℕ

@@ -1,14 +1,13 @@
 -- Orders of columns.
-use Rattle.std.proofs.Common.{◌≡◌, ℕ, zero, suc, ◌+◌, ◌<◌, ◌≤◌, Bool, true, false, cond, eqb, ◌⊎◌, List, [], ◌∷◌, ◌++◌, map, length, get_or, take, drop, sym, refl, ap, ◌∙◌, subst, inl, inr, ⊎_elim, arith}
+use Rattle.std.proofs.Common.{◌≡◌, ℕ, zero, suc, ◌+◌, ◌<◌, ◌≤◌, cond, ◌⊎◌, List, [], ◌∷◌, ◌++◌, length, get_or, take, sym, refl, ap, ◌∙◌, subst, inl, inr, ⊎_elim, arith}
 use mathlib.Core.List.Memᴰ
 use mathlib.Core.List.{Memᴰ}
 use native.Mathlib.Decide.{ℕ_discrete}
 use Rattle.std.specs.List.{ContainsAt as Has, AllByRecursion as All}
 use Rattle.std.proofs.ByRecursion.{All-push, All-get_or, has_get_or}
-use Rattle.std.proofs.lemmas.List.{length_push, map_push, get_or-map, length-map, take_more, get_or_push, get_or_append_left, same_lists, take_all, length-take-le, get_or-take, get_or_default}
+use Rattle.std.proofs.lemmas.List.{length_push, map_push, get_or-map, length-map, take_more, get_or_push, get_or_append_left, take_all, length-take-le, get_or-take}
 use Rattle.std.proofs.lemmas.Bool.{cases_lt, ne_eqb, eq-eqb}
-use Rattle.text.specs.Lines.{Field, Fields, Cut, spaced}
-use Rattle.text.proofs.Cuts.{fields_same}
+use Rattle.text.specs.Lines.{Field, Cut, spaced}
 use Rattle.format.specs.Columns.{Order, arranged}
 use Rattle.format.specs.Filling.{Apart}
 use Rattle.format.specs.Verdict.{place_of}

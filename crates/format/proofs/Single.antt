@@ -3,14 +3,14 @@
 -- From a place a line leads to at most one next place, and a line that leads on fails no check. So two readings of one
 -- file go through the same places as far as both go; where one of them stops, the other stops too or goes on, and a
 -- line that goes on can't be the reason to stop.
-use Rattle.std.proofs.Common.{◌≡◌, ℕ, ◌+◌, ◌<◌, ◌≤◌, Bool, true, false, cond, ◌⊎◌, List, [], ◌∷◌, ◌++◌, map, length, get_or, sym, refl, ap, ◌∙◌, subst, inl, inr, ⊎_elim, append_assoc, append-nil, arith}
+use Rattle.std.proofs.Common.{◌≡◌, ℕ, ◌+◌, ◌<◌, ◌≤◌, true, false, ◌⊎◌, List, [], ◌∷◌, ◌++◌, map, length, get_or, sym, refl, ap, ◌∙◌, subst, inl, inr, append_assoc, append-nil, arith}
 use Rattle.std.specs.List.{flat_map, AllByRecursion as All}
 use Rattle.std.proofs.ByRecursion.{All-get_or}
 use Rattle.std.proofs.lemmas.List.{length-append, get_or_at, get_or_append_left, ext_get_or, get_or-map}
 use Rattle.std.proofs.lemmas.Bool.{true≢false}
-use Rattle.fault.specs.Checks.{Check, Passes, Fails}
+use Rattle.fault.specs.Checks.{Passes, Fails}
 use Rattle.fault.proofs.Ordered.{fails_same, passes_not_fails, passes_both}
-use Rattle.text.specs.Lines.{Fields, Cut, Unbroken, spaced}
+use Rattle.text.specs.Lines.{Unbroken, spaced}
 use Rattle.text.proofs.Cuts.{same_cut, no_stop, fields_same}
 use Rattle.mesh.specs.declared.link.Link.{Link}
 use Rattle.mesh.specs.Rules.{InRange, EndsDiffer, Joins}
@@ -18,16 +18,14 @@ use Rattle.vocab.specs.declared.kinds.Table.{Table}
 use Rattle.vocab.specs.declared.kinds.Table.TheVariants.{Settings, Links, Steps}
 use Rattle.vocab.specs.declared.kinds.Setting.{Setting}
 use Rattle.vocab.specs.declared.kinds.Step.{Step}
-use Rattle.vocab.specs.declared.faults.LineFault.{LineFault}
-use Rattle.vocab.specs.declared.faults.LineFault.TheVariants.{Layout}
 use Rattle.vocab.specs.declared.faults.ReadFault.{ReadFault}
-use Rattle.vocab.specs.declared.faults.ReadFault.TheVariants.{TooLong, Line, Missing}
+use Rattle.vocab.specs.declared.faults.ReadFault.TheVariants.{Line}
 use Rattle.format.specs.Columns.{Order, arranged, row}
 use Rattle.format.specs.Tables.{setting_values, link_values, step_values, setting_takes, link_takes, step_takes}
 use Rattle.vocab.specs.Words.{names}
-use Rattle.format.specs.Content.{Content, Kept, SettingKept, LinksKept, setting_text, links_text, steps_text}
-use Rattle.format.specs.Verdict.{Place, at_setting_names, at_setting, at_link_names, at_links, at_steps, before, Sound, UpTo, RefusedAt, Accepts, Refuses, MayEnd, line_number, line_checks, digit_first, names_checks, field_checks, setting_checks, link_line_checks, step_checks, SettingLine, LinkLine, Judgement, accepted, refused, Judges, Judged}
-use Rattle.format.proofs.Orders.{cut_of, each, column}
+use Rattle.format.specs.Content.{Content, SettingKept, LinksKept, setting_text, links_text, steps_text}
+use Rattle.format.specs.Verdict.{Place, at_setting_names, at_setting, at_link_names, at_links, at_steps, before, Sound, UpTo, RefusedAt, Accepts, Refuses, line_number, line_checks, digit_first, names_checks, field_checks, LinkLine, Judgement, accepted, refused, Judges, Judged}
+use Rattle.format.proofs.Orders.{cut_of}
 use Rattle.format.proofs.Known.{names_fields, names_apart, names_some, setting_fields, link_fields, step_fields}
 use Rattle.format.proofs.Holding.{row_passes, setting_holds, link_holds, step_holds, link_first, names_first}
 use Rattle.format.proofs.Unique.{setting_same, link_same, step_same}

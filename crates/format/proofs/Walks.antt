@@ -1,11 +1,11 @@
 -- One line more: from a place to the next, or a refusal there.
-use Rattle.std.proofs.Common.{◌≡◌, ℕ, ◌+◌, ◌<◌, ◌≤◌, Bool, true, false, cond, ◌⊎◌, List, [], ◌∷◌, ◌++◌, map, length, Err, sym, refl, ap, ◌∙◌, subst, inl, inr, ⊎_elim, append_assoc, append-nil, arith}
+use Rattle.std.proofs.Common.{◌≡◌, ℕ, ◌+◌, ◌<◌, ◌≤◌, true, false, cond, ◌⊎◌, List, [], ◌∷◌, ◌++◌, map, length, Err, sym, refl, ap, ◌∙◌, subst, inl, inr, append_assoc, append-nil, arith}
 use native.Mathlib.Decide.{ℕ_discrete}
 use Rattle.std.specs.List.{flat_map, AllByRecursion as All}
 use Rattle.std.proofs.ByRecursion.{All-push, All-append, All-weaker}
 use Rattle.std.proofs.lemmas.List.{length-append, length_push, map_push, flat_map_more}
-use Rattle.fault.specs.Checks.{Check, Fails}
-use Rattle.text.specs.Lines.{Mark, Field, Fields, Cut, Unbroken, spaced}
+use Rattle.fault.specs.Checks.{Fails}
+use Rattle.text.specs.Lines.{Mark, Field, Fields, Unbroken, spaced}
 use Rattle.mesh.specs.declared.link.Link.{Link}
 use Rattle.mesh.specs.Rules.{InRange, EndsDiffer, Joins}
 use Rattle.mesh.proofs.Grown.{once_push}
@@ -19,9 +19,9 @@ use Rattle.vocab.specs.declared.faults.ReadFault.TheVariants.{Line, Missing}
 use Rattle.format.specs.Columns.{Order, arranged, row}
 use Rattle.format.specs.Tables.{setting_values, link_values, step_values}
 use Rattle.vocab.specs.Words.{names}
-use Rattle.format.specs.Content.{SettingKept, LinksKept, StepsKept, setting_text, links_text, steps_text}
+use Rattle.format.specs.Content.{SettingKept, setting_text, links_text, steps_text}
 use Rattle.format.specs.Stages.{NextLine}
-use Rattle.format.specs.Verdict.{Place, at_setting_names, at_setting, at_link_names, at_links, at_steps, before, UpTo, Refuses, MayEnd, line_number, line_checks, digit_first, names_checks, link_line_checks, LinkLine}
+use Rattle.format.specs.Verdict.{Place, at_setting_names, at_setting, at_link_names, at_links, at_steps, UpTo, Refuses, MayEnd, line_number, line_checks, digit_first, names_checks, link_line_checks, LinkLine}
 
 marks_unbroken : (f : List ℕ) → All Mark f → Unbroken f
 marks_unbroken f w = All-weaker Mark (λ b. b ≡ 10 → ⊥) (λ b m e. omega (arith, m.0, e)) f w

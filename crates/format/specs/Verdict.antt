@@ -2,8 +2,8 @@
 --
 -- A file is read line by line. A place says what has been read before a line; each line has its checks, in their
 -- order; the first check that fails is the file's fault.
-use Rattle.std.specs.Prelude.{◌≡◌, ℕ, suc, ◌+◌, ◌<◌, ◌≤◌, Bool, true, false, cond, ◌&&◌, ◌⊎◌, List, [], ◌∷◌, ◌++◌, map, length, ◌==◌, nat_le}
-use Rattle.fault.specs.Checks.{Check, check, Passes, Fails}
+use Rattle.std.specs.Prelude.{◌≡◌, ℕ, suc, ◌+◌, ◌<◌, ◌≤◌, Bool, false, cond, ◌&&◌, ◌⊎◌, List, [], ◌∷◌, ◌++◌, length, ◌==◌, nat_le}
+use Rattle.fault.specs.Checks.{Check, check, Fails}
 use Rattle.text.specs.Lines.{Cut, Unbroken, spaced}
 use Rattle.mesh.specs.declared.link.Link.{Link}
 use Rattle.mesh.specs.declared.link.LinkFault.TheVariants.{TooMany, SameEnds, PairRepeated}
