@@ -1,5 +1,5 @@
 -- A fault that is handed on with the place where it arose.
-use Rattle.std.proofs.Common.{◌≡◌, ℕ, Ok, Err, Result, sym, refl, ap, ◌∙◌, subst, arith, MatchResult}
+use Rattle.std.proofs.Common.{◌≡◌, ℕ, Ok, Err, Result, subst, arith, MatchResult}
 use Rattle.text.specs.declared.number.FieldFault.{FieldFault}
 use Rattle.vocab.specs.declared.faults.LineFault.{LineFault}
 use Rattle.vocab.specs.declared.faults.LineFault.TheVariants.{BadField}

@@ -1,5 +1,4 @@
-use Rattle.std.proofs.Common.{refl, inl, inr, arith, true-eqb}
-use borrow.Author.Tests.{eqb-false}
+use Rattle.std.proofs.Common.{refl, inl, true-eqb}
 use Rattle.std.proofs.lemmas.List.{nil_from_length}
 use Rattle.scan.proofs.lines.next_line.Goals as goal
 
