@@ -1,5 +1,5 @@
 -- The judgement that the reader's answer gives.
-use Rattle.std.specs.Prelude.{ℕ, List, Ok, Err, vec_items, Result}
+use Rattle.std.specs.Prelude.{Ok, Err, vec_items, Result}
 use Rattle.session.specs.declared.session.Session.{Session}
 use Rattle.vocab.specs.declared.faults.ReadFault.{ReadFault}
 use Rattle.format.specs.Content.{Content}

@@ -29,9 +29,11 @@ pub fn has_fields(count: usize, line: &[u8], n: usize) -> Result<(), LineFault>
 
 // The order in which the words stand in a line of as many fields.
 fn order_of(words: &[&[u8]], line: &[u8], order: &mut Vec<usize>) -> Result<(), LineFault>
-    requires apart { (Apart (texts words.now)) × ((All Field (texts words.now)) × (0 < length words.now)) }
-    requires words_len_bound { length words.now ≤ vec_capacity order.old }
-    requires by_index { (fs : List (List ℕ)) × Cut (length words.now) line.now fs }
+    requires apart { Apart (texts words.now) }
+    requires fields { All Field (texts words.now) }
+    requires some { 0 < length words.now }
+    requires room { length words.now ≤ vec_capacity order.old }
+    requires cut { (fs : List (List ℕ)) × Cut (length words.now) line.now fs }
     ensures room { vec_capacity order.new ≡ vec_capacity order.old }
     ensures finds { MatchResult result (λ _. Order (length (texts words.now)) order.new.items × (line.now ≡ spaced (arranged order.new.items (texts words.now)))) (λ e. (((o : List ℕ) × Order (length (texts words.now)) o × (line.now ≡ spaced (arranged o (texts words.now)))) → ⊥) × (e ≡ WrongNames)) }
 {
@@ -58,7 +60,8 @@ pub fn names_line(
     line: &[u8],
     order: &mut Vec<usize>,
 ) -> Result<(), LineFault>
-    requires { (5 ≤ vec_capacity order.old) × (((fs : List (List ℕ)) × Cut count line.now fs)) }
+    requires room { 5 ≤ vec_capacity order.old }
+    requires cut { (fs : List (List ℕ)) × Cut count line.now fs }
     ensures room { vec_capacity order.new ≡ vec_capacity order.old }
     ensures reads { MatchResult result (λ _. Order (length (names table)) order.new.items × (line.now ≡ spaced (arranged order.new.items (names table)))) (Fails (names_checks (names table) line.now)) }
 {
@@ -69,10 +72,10 @@ pub fn names_line(
 
 /// Fills a row from the fields of a line, swept left to right, whose columns stand in this order.
 pub fn fill<R: Row>(row: &mut R, order: &[usize], line: &[u8]) -> Result<(), LineFault>
-    requires order { Order (length (values row.old)) order.now }
-    requires by_index { (fs : List (List ℕ)) × Cut (length order.now) line.now fs }
-    ensures base { base row.new ≡ base row.old }
-    ensures fills { MatchResult result (λ _. Filled (takes (base row.old)) order.now line.now (values row.new) (fits row.new)) (Fails (field_checks (takes (base row.old)) line.now 0 order.now)) }
+    requires order { Order (length (R.values row.old)) order.now }
+    requires cut { (fs : List (List ℕ)) × Cut (length order.now) line.now fs }
+    ensures base { R.base row.new ≡ R.base row.old }
+    ensures fills { MatchResult result (λ _. Filled (R.takes (R.base row.old)) order.now line.now (R.values row.new) (R.fits row.new)) (Fails (field_checks (R.takes (R.base row.old)) line.now 0 order.now)) }
 {
     let mut rest = line;
     for (i, column) in order.iter().enumerate() {

@@ -22,7 +22,8 @@ const ROOT: usize = 1;
 
 /// The settings that a line writes.
 pub fn setting_line(order: &[usize], count: usize, line: &[u8]) -> Result<Setting, LineFault>
-    requires { (Order 5 order.now) × (((fs : List (List ℕ)) × Cut count line.now fs)) }
+    requires order { Order 5 order.now }
+    requires cut { (fs : List (List ℕ)) × Cut count line.now fs }
     ensures { MatchResult result (λ h. SettingKept h × (line.now ≡ spaced (arranged order.now (setting_values h)))) (Fails (setting_checks order.now line.now)) }
 {
     has_fields(count, line, order.len())?;
@@ -47,7 +48,8 @@ pub fn link_line(
     count: usize,
     line: &[u8],
 ) -> Result<(), LineFault>
-    requires { (Order 4 order.now) × (((fs : List (List ℕ)) × Cut count line.now fs)) }
+    requires order { Order 4 order.now }
+    requires cut { (fs : List (List ℕ)) × Cut count line.now fs }
     ensures nodes { mesh.new.nodes ≡ mesh.old.nodes }
     ensures root { mesh.new.root ≡ mesh.old.root }
     ensures joins { MatchResult result (λ _. ((l : ALink) × LinkLine order.now mesh.old.nodes line.now l × (length mesh.old.links.items < 512) × EndsDiffer l × (Joins mesh.old.links.items l.from l.to → ⊥) × (mesh.new.links.items ≡ mesh.old.links.items ++ l ∷ []))) (λ e. Fails (link_line_checks order.now mesh.old.nodes mesh.old.links.items line.now) e × (mesh.new.links.items ≡ mesh.old.links.items)) }
@@ -72,7 +74,8 @@ pub fn link_line(
 
 /// The step that a line writes.
 pub fn step_line(order: &[usize], count: usize, line: &[u8]) -> Result<Step, LineFault>
-    requires { (Order 2 order.now) × (((fs : List (List ℕ)) × Cut count line.now fs)) }
+    requires order { Order 2 order.now }
+    requires cut { (fs : List (List ℕ)) × Cut count line.now fs }
     ensures { MatchResult result (λ s. (s.pick ≤ 65535) × (line.now ≡ spaced (arranged order.now (step_values s)))) (Fails (step_checks order.now line.now)) }
 {
     has_fields(count, line, order.len())?;

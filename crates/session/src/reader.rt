@@ -23,7 +23,8 @@ fn setting_table<'a>(
     columns: &mut Vec<usize>,
     bytes: &'a [u8],
 ) -> Result<(Setting, &'a [u8]), ReadFault>
-    requires { (5 ≤ vec_capacity columns.old) × (length bytes.now ≤ 65536) }
+    requires room { 5 ≤ vec_capacity columns.old }
+    requires short { length bytes.now ≤ 65536 }
     ensures room { vec_capacity columns.new ≡ vec_capacity columns.old }
     ensures reads { MatchResult result (λ x. ((o : List ℕ) × UpTo bytes.now (at_link_names o x.0) x.1.now)) (Refuses bytes.now) }
 {
@@ -52,7 +53,8 @@ fn link_table<'a>(
     mesh: &mut Mesh,
     text: &'a [u8],
 ) -> Result<(usize, &'a [u8], &'a [u8]), ReadFault>
-    requires { (Order 4 order.now) × (mesh.old.links.items ≡ []) }
+    requires order { Order 4 order.now }
+    requires none { mesh.old.links.items ≡ [] }
     ensures nodes { mesh.new.nodes ≡ mesh.old.nodes }
     ensures root { mesh.new.root ≡ mesh.old.root }
     ensures reads { MatchResult result (λ x. LinksRead order.now mesh.old.nodes text.now mesh.new.links.items x.0 x.1.now x.2.now) (LinksRefused order.now mesh.old.nodes text.now) }
@@ -76,8 +78,11 @@ fn step_table(
     steps: &mut Vec<Step>,
     text: &[u8],
 ) -> Result<(), ReadFault>
-    requires order { (Order 2 order.now) × ((first ≤ 65536) × (vec_len steps.old ≡ 0)) }
-    requires text_len_bound { (length text.now ≤ 65536) × (16384 ≤ vec_capacity steps.old) }
+    requires order { Order 2 order.now }
+    requires near { first ≤ 65536 }
+    requires none { vec_len steps.old ≡ 0 }
+    requires short { length text.now ≤ 65536 }
+    requires room { 16384 ≤ vec_capacity steps.old }
     ensures reads { MatchResult result (λ _. StepsRead order.now text.now steps.new.items) (StepsRefused order.now first text.now) }
 {
     let mut rest = text;

@@ -1,7 +1,6 @@
-use Rattle.std.proofs.Common.{◌≡◌, ℕ, ◌+◌, ◌<◌, List, [], length, get_or, drop, sym, refl, ap, ◌∙◌, subst, arith}
+use Rattle.std.proofs.Common.{◌≡◌, ◌+◌, [], length, get_or, drop, sym, refl, ap, ◌∙◌, subst, arith}
 use Rattle.std.proofs.lemmas.Result.{err_from_is_err_and}
 use Rattle.text.specs.Lines.{spaced}
-use Rattle.format.specs.Filling.{PutAt}
 use Rattle.format.proofs.Fills.{next_field, start, one_more, refused, done}
 use Rattle.scan.proofs.Handed.{field_ok, field_err}
 use Rattle.session.proofs.columns.fill.Given as given
@@ -11,7 +10,7 @@ use Rattle.session.proofs.columns.fill.Goals.{After-at_field}
 pub loop-i-init : goal.loop-i-init
 loop-i-init g c =
     let m = g.R.Row in
-    let f = c.requires.1 in
+    let f = c.requires.cut in
     (refl, (f.0, f.1, f.1.0.is, start (m.takes (m.base c.args.row.now)) (length (m.values c.args.row.now)) c.args.order.now f.0 (m.values c.args.row.now) (m.fits c.args.row.now) refl))
 
 -- the fields, and what the loop cut off
@@ -29,11 +28,11 @@ returns-in_err-at_field g c =
     let m = g.R.Row in
     let i = c.loop-i.invariant.1 in
     let a = (goal.at.returns-in_err-at_field g c).After-at_field in
-    let p = err_from_is_err_and c.from-residual.result c.from-residual.ensures.1 in
+    let p = err_from_is_err_and c.from_residual.result c.from_residual.ensures.1 in
     let f = field_err (c.loop-i.i + 1) c.put.result c.at_field.result c.in_err-at_field.field-0.0 _ _ c.at_field.ensures c.in_err-at_field.was c.put.ensures.puts in
     record {
       base = c.put.ensures.base ∙ c.loop-i.invariant.0;
-      fills = rw (p.1, p.2, f.1) (refused (m.takes (m.base c.args.row.now)) (length (m.values c.args.row.now)) c.args.order.now c.requires.0 c.args.line.now i.0 i.1.0 i.1.1 c.loop-i.i (m.values c.loop-i.row) (m.fits c.loop-i.row) i.3 c.loop-i-test.true c.first_field.result.0.now (cut g a).0 (λ t. f.0 (subst (λ T. T) (sym (takes g a)) t)));
+      fills = rw (p.1, p.2, f.1) (refused (m.takes (m.base c.args.row.now)) (length (m.values c.args.row.now)) c.args.order.now c.requires.order c.args.line.now i.0 i.1.0 i.1.1 c.loop-i.i (m.values c.loop-i.row) (m.fits c.loop-i.row) i.3 c.loop-i-test.true c.first_field.result.0.now (cut g a).0 (λ t. f.0 (subst (λ T. T) (sym (takes g a)) t)));
     }
 
 pub loop-i-preserved : goal.loop-i-preserved
@@ -47,7 +46,7 @@ loop-i-preserved g c =
         i.0,
         i.1,
         (cut g a).1,
-        one_more (m.takes (m.base c.args.row.now)) (length (m.values c.args.row.now)) c.args.order.now c.requires.0 c.args.line.now i.0 i.1.0 i.1.1 c.loop-i.i (m.values c.loop-i.row) (m.fits c.loop-i.row) i.3 c.loop-i-test.true c.first_field.result.0.now (cut g a).0 (subst (λ T. T) (takes g a) f.0) (m.values c.put.new.self) (m.fits c.put.new.self) f.1,
+        one_more (m.takes (m.base c.args.row.now)) (length (m.values c.args.row.now)) c.args.order.now c.requires.order c.args.line.now i.0 i.1.0 i.1.1 c.loop-i.i (m.values c.loop-i.row) (m.fits c.loop-i.row) i.3 c.loop-i-test.true c.first_field.result.0.now (cut g a).0 (subst (λ T. T) (takes g a) f.0) (m.values c.put.new.self) (m.fits c.put.new.self) f.1,
       ),
     )
 
@@ -57,5 +56,5 @@ returns g c =
     let i = c.loop-i.invariant.1 in
     record {
       base = c.loop-i.invariant.0;
-      fills = done (m.takes (m.base c.args.row.now)) (length (m.values c.args.row.now)) c.args.order.now c.requires.0 c.args.line.now i.0 i.1.0 i.1.1 c.loop-i.i (m.values c.loop-i.row) (m.fits c.loop-i.row) i.3 c.loop-i-test.false;
+      fills = done (m.takes (m.base c.args.row.now)) (length (m.values c.args.row.now)) c.args.order.now c.requires.order c.args.line.now i.0 i.1.0 i.1.1 c.loop-i.i (m.values c.loop-i.row) (m.fits c.loop-i.row) i.3 c.loop-i-test.false;
     }

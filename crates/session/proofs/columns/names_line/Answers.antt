@@ -1,4 +1,4 @@
-use Rattle.std.proofs.Common.{◌≡◌, ℕ, ◌<◌, List, length, vec_items, sym, refl, ap, ◌∙◌, subst, inl, inr, arith}
+use Rattle.std.proofs.Common.{◌≡◌, length, vec_items, sym, refl, ap, ◌∙◌, subst, inl, arith}
 use Rattle.std.specs.List.{AllByRecursion as All}
 use Rattle.std.proofs.lemmas.List.{length-map}
 use Rattle.std.proofs.lemmas.Result.{err_from_is_err_and}
@@ -18,7 +18,7 @@ many c = sym (length-map c.titles-words.result.now (λ x. x.now)) ∙ ap length 
 pub returns-in_err-has_fields : goal.returns-in_err-has_fields
 returns-in_err-has_fields c =
     let m = many (goal.at.returns-in_err-has_fields c).After-has_fields in
-    let p = err_from_is_err_and c.from-residual.result c.from-residual.ensures.1 in
+    let p = err_from_is_err_and c.from_residual.result c.from_residual.ensures.1 in
     let h = c.in_err-has_fields.ensures in
     record {
       room = refl;
@@ -28,11 +28,14 @@ returns-in_err-has_fields c =
 pub order_of-requires : goal.order_of-requires
 order_of-requires c =
     let m = many (goal.at.order_of-requires c).After-has_fields in
-    let t = c.args.table in (
-      (subst Apart (sym c.titles-words.ensures) (names_apart t), (subst (All Field) (sym c.titles-words.ensures) (names_fields t), omega (arith, (names_some t).0, m))),
-      omega (arith, (names_some t).1, m),
-      c.in_ok-has_fields.ensures,
-    )
+    let t = c.args.table in
+    record {
+      apart = subst Apart (sym c.titles-words.ensures) (names_apart t);
+      fields = subst (All Field) (sym c.titles-words.ensures) (names_fields t);
+      some = omega (arith, (names_some t).0, m);
+      room = omega (arith, (names_some t).1, m);
+      cut = c.in_ok-has_fields.ensures;
+    }
 
 pub returns : goal.returns
 returns c =

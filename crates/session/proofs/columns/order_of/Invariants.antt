@@ -7,8 +7,8 @@ use Rattle.session.proofs.columns.order_of.Given as goal
 abbrev pub invariant-loop-i : goal.invariant-loop-i
 invariant-loop-i l =
     (vec_capacity l.order ≡ vec_capacity l.initial.order)
-    × (vec_len l.order ≡ l.-i)
+    × (vec_len l.order ≡ l._i)
     × ((fs : List (List ℕ))
     × Cut (length l.words) l.line fs
-    × (l.rest ≡ spaced (drop l.-i fs))
-    × Sofar (texts l.words) fs l.-i (vec_items l.order))
+    × (l.rest ≡ spaced (drop l._i fs))
+    × Sofar (texts l.words) fs l._i (vec_items l.order))

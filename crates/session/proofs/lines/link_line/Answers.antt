@@ -1,22 +1,21 @@
-use Rattle.std.proofs.Common.{◌≡◌, ◌<◌, ◌≤◌, length, vec_items, sym, refl, ap, ◌∙◌, subst, inl, inr, arith}
+use Rattle.std.proofs.Common.{◌<◌, length, vec_items, sym, refl, ◌∙◌, subst, inr, arith}
 use Rattle.std.proofs.lemmas.Result.{err_from_is_err_and}
 use Rattle.std.proofs.lemmas.Bool.{leb-false}
-use Rattle.fault.specs.Checks.{Passes, Fails}
 use Rattle.fault.proofs.Ordered.{fails_first}
 use Rattle.text.specs.Lines.{Cut}
 use Rattle.format.specs.Tables.{link_takes}
 use Rattle.format.specs.Verdict.{LinkLine, field_checks}
 use Rattle.format.proofs.Judging.{HasCut, link_fails}
 use Rattle.session.proofs.lines.link_line.Goals as goal
-use Rattle.session.proofs.lines.link_line.Goals.{After-is_full, After-fill, In-ok-fill}
+use Rattle.session.proofs.lines.link_line.Goals.{After-is_full, After-fill, In_ok-fill}
 
 cut : (c : After-fill) → HasCut 4 c.args.line.now
-cut c = let f = c.in_ok-has_fields.ensures in (f.0, subst (λ n. Cut n c.args.line.now f.0) c.requires.0.long f.1)
+cut c = let f = c.in_ok-has_fields.ensures in (f.0, subst (λ n. Cut n c.args.line.now f.0) c.requires.order.long f.1)
 
 room : (c : After-fill) → length (vec_items c.args.mesh.now.links) < 512
 room c = leb-false 512 (length (vec_items c.args.mesh.now.links)) (sym c.is_full.ensures ∙ c.if-is_full.false)
 
-written : (c : In-ok-fill) → LinkLine c.args.order.now c.args.mesh.now.nodes c.args.line.now c.fill.new.row.link
+written : (c : In_ok-fill) → LinkLine c.args.order.now c.args.mesh.now.nodes c.args.line.now c.fill.new.row.link
 written c =
     let f = c.in_ok-fill.ensures.fills in
     let n = c.in_ok-fill.ensures.base in
@@ -24,16 +23,16 @@ written c =
     record {
       is = f.is;
       range = (
-        (omega (arith, f.fit 0 (omega (arith, c.requires.0.long)), n, m.rooted), omega (arith, f.fit 1 (omega (arith, c.requires.0.long)), n, m.rooted)),
-        f.fit 2 (omega (arith, c.requires.0.long)),
-        f.fit 3 (omega (arith, c.requires.0.long)),
+        (omega (arith, f.fit 0 (omega (arith, c.requires.order.long)), n, m.rooted), omega (arith, f.fit 1 (omega (arith, c.requires.order.long)), n, m.rooted)),
+        f.fit 2 (omega (arith, c.requires.order.long)),
+        f.fit 3 (omega (arith, c.requires.order.long)),
       );
     }
 
 pub returns-in_err-fill : goal.returns-in_err-fill
 returns-in_err-fill c =
     let a = (goal.at.returns-in_err-fill c).After-fill in
-    let p = err_from_is_err_and c.from-residual-in_err-fill.result c.from-residual-in_err-fill.ensures.1 in
+    let p = err_from_is_err_and c.from_residual-in_err-fill.result c.from_residual-in_err-fill.ensures.1 in
     record {
       nodes = refl;
       root = refl;
@@ -43,18 +42,18 @@ returns-in_err-fill c =
 pub returns-in_err-join : goal.returns-in_err-join
 returns-in_err-join c =
     let a = (goal.at.returns-in_err-join c).After-fill in
-    let b = (goal.at.returns-in_err-join c).In-ok-fill in
-    let p = err_from_is_err_and c.from-residual-in_err-join.result c.from-residual-in_err-join.ensures.1 in
+    let b = (goal.at.returns-in_err-join c).In_ok-fill in
+    let p = err_from_is_err_and c.from_residual-in_err-join.result c.from_residual-in_err-join.ensures.1 in
     let e = c.in_err-join.ensures in
     record {
       nodes = e.nodes;
       root = e.root;
-      joins = rw (p.1, p.2) (link_fails c.args.order.now c.args.mesh.now.nodes (vec_items c.args.mesh.now.links) c.args.line.now c.fill.new.row.link c.in_err-join.field-0.0 c.requires.0 c.args.mesh.now.many (cut a) (room a) c.in_ok-fill.ensures.fills.passes (written b) e.links.0, e.links.1);
+      joins = rw (p.1, p.2) (link_fails c.args.order.now c.args.mesh.now.nodes (vec_items c.args.mesh.now.links) c.args.line.now c.fill.new.row.link c.in_err-join.field-0.0 c.requires.order c.args.mesh.now.many (cut a) (room a) c.in_ok-fill.ensures.fills.passes (written b) e.links.0, e.links.1);
     }
 
 pub returns : goal.returns
 returns c =
-    let b = (goal.at.returns c).In-ok-fill in
+    let b = (goal.at.returns c).In_ok-fill in
     let e = c.in_ok-join.ensures in
     record {
       nodes = e.nodes;

@@ -1,4 +1,4 @@
-use Rattle.std.proofs.Common.{◌≡◌, vec_items, sym, refl, ap, ◌∙◌, subst, inl, inr, arith}
+use Rattle.std.proofs.Common.{◌≡◌, vec_items, refl, inl}
 use Rattle.std.proofs.lemmas.Result.{err_from_is_err_and}
 use Rattle.fault.specs.Checks.{Fails}
 use Rattle.text.specs.Lines.{spaced}
@@ -12,7 +12,7 @@ use Rattle.session.proofs.reader.link_names.Goals as goal
 
 pub returns-in_err-count : goal.returns-in_err-count
 returns-in_err-count c =
-    let p = err_from_is_err_and c.from-residual.result c.from-residual.ensures.1 in
+    let p = err_from_is_err_and c.from_residual.result c.from_residual.ensures.1 in
     record {
       room = refl;
       order = rw p.1 tt;
@@ -21,7 +21,7 @@ returns-in_err-count c =
 
 pub returns-in_err-at_line : goal.returns-in_err-at_line
 returns-in_err-at_line c =
-    let p = err_from_is_err_and c.from-residual-in_err-at_line.result c.from-residual-in_err-at_line.ensures.1 in
+    let p = err_from_is_err_and c.from_residual-in_err-at_line.result c.from_residual-in_err-at_line.ensures.1 in
     let l = line_err 3 c.names_line.result c.at_line.result c.in_err-at_line.field-0.0 _ (Fails (names_checks (names Links) c.in_ok-count.line.now)) c.at_line.ensures c.in_err-at_line.was c.names_line.ensures.reads in
     let h = c.in_ok-count.ensures in
     record {

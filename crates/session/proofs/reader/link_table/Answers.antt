@@ -1,9 +1,8 @@
-use Rattle.std.proofs.Common.{◌≡◌, ℕ, ◌+◌, ◌<◌, true, false, List, [], ◌∷◌, ◌++◌, length, vec_items, sym, refl, ap, ◌∙◌, subst, inl, inr, arith}
+use Rattle.std.proofs.Common.{◌≡◌, ◌+◌, ◌<◌, true, [], ◌∷◌, ◌++◌, length, vec_items, sym, refl, ap, ◌∙◌, subst, inl, arith}
 use Rattle.std.proofs.lemmas.Result.{err_from_is_err_and}
 use Rattle.fault.specs.Checks.{Fails}
 use Rattle.mesh.specs.declared.link.Link.{Link}
 use Rattle.mesh.specs.Rules.{EndsDiffer, Joins}
-use Rattle.vocab.specs.declared.kinds.Setting.{Setting}
 use Rattle.vocab.specs.declared.faults.ReadFault.TheVariants.{Line}
 use Rattle.format.specs.Verdict.{digit_first, UpTo, at_links, link_line_checks, LinkLine}
 use Rattle.scan.proofs.Handed.{line_ok, line_err}
@@ -11,11 +10,11 @@ use Rattle.format.proofs.Walks.{refuse, refuse_next, more_links, link_line_at, s
 use Rattle.session.proofs.reader.link_table.Goals as goal
 
 pub loop-count-init : goal.loop-count-init
-loop-count-init c = (refl, refl, λ bytes o h n u. subst (λ ls. UpTo bytes (at_links o h c.args.order.now ls) c.args.text.now) (sym c.requires.1) u)
+loop-count-init c = (refl, refl, λ bytes o h n u. subst (λ ls. UpTo bytes (at_links o h c.args.order.now ls) c.args.text.now) (sym c.requires.none) u)
 
 pub returns-in_err-count : goal.returns-in_err-count
 returns-in_err-count c =
-    let p = err_from_is_err_and c.from-residual.result c.from-residual.ensures.1 in
+    let p = err_from_is_err_and c.from_residual.result c.from_residual.ensures.1 in
     let m = c.loop-count.mesh in
     record {
       nodes = c.loop-count.invariant.0;
@@ -25,7 +24,7 @@ returns-in_err-count c =
 
 pub returns-in_err-at_line : goal.returns-in_err-at_line
 returns-in_err-at_line c =
-    let p = err_from_is_err_and c.from-residual-in_err-at_line.result c.from-residual-in_err-at_line.ensures.1 in
+    let p = err_from_is_err_and c.from_residual-in_err-at_line.result c.from_residual-in_err-at_line.ensures.1 in
     let m = c.loop-count.mesh in
     let line = c.in_ok-count.line.now in
     let l = line_err (4 + c.len-number.result) c.link_line.result c.at_line.result c.in_err-at_line.field-0.0 _ (λ e. Fails (link_line_checks c.args.order.now m.nodes (vec_items m.links) line) e × (vec_items c.link_line.new.mesh.links ≡ vec_items m.links)) c.at_line.ensures c.in_err-at_line.was c.link_line.ensures.joins in
@@ -60,3 +59,12 @@ loop-count-preserved c =
           (more_links bytes c.loop-count.rest.now line c.in_ok-count.after.now c.in_ok-count.ensures.0 o h order (vec_items m.links) g.0
           (c.loop-count.invariant.2 bytes o h e u) (subst (λ x. LinkLine order x line g.0) (c.loop-count.invariant.0 ∙ sym e) g.1) g.2 g.3 g.4),
     )
+
+pub returns-then-not-is_link_line-clause-reads : goal.returns-then-not-is_link_line-clause-reads
+returns-then-not-is_link_line-clause-reads c =
+    let h = c.in_ok-count.ensures in
+    record {
+      is = λ bytes o k e u. subst (λ x. UpTo bytes (at_links o k c.args.order.now (vec_items c.loop-count.mesh.links)) x) h.0 (c.loop-count.invariant.2 bytes o k e u);
+      cut = h.1;
+      ends = sym c.is_link_line.ensures ∙ c.if-not-is_link_line.true;
+    }

@@ -1,10 +1,9 @@
-use Rattle.std.proofs.Common.{◌≡◌, ℕ, ◌+◌, ◌<◌, ◌≤◌, List, [], ◌∷◌, ◌++◌, length, vec_items, sym, refl, ap, ◌∙◌, subst, inl, inr, arith, true-eqb}
+use Rattle.std.proofs.Common.{◌≡◌, ◌+◌, ◌<◌, ◌≤◌, length, vec_items, sym, ap, ◌∙◌, subst, inr, arith, true-eqb}
 use borrow.Author.Tests.{eqb-false}
 use Rattle.std.proofs.lemmas.List.{nil_from_length}
 use Rattle.std.proofs.lemmas.Result.{err_from_is_err_and}
 use Rattle.fault.specs.Checks.{Fails}
 use Rattle.text.specs.Lines.{spaced}
-use Rattle.vocab.specs.declared.kinds.Step.{Step}
 use Rattle.vocab.specs.declared.faults.ReadFault.TheVariants.{Line}
 use Rattle.format.specs.Columns.{arranged}
 use Rattle.format.specs.Tables.{step_values}
@@ -17,14 +16,14 @@ use Rattle.session.proofs.reader.step_table.Goals as goal
 
 pub loop-rest-init : goal.loop-rest-init
 loop-rest-init c = (
-  omega (arith, c.requires.0.1.1, c.requires.1.0),
-  c.requires.1.1,
-  λ bytes o h p ls u. subst (λ ss. UpTo bytes (at_steps o h p ls c.args.order.now ss) c.args.text.now) (sym (nil_from_length (vec_items c.args.steps.now) (omega (arith, c.args.steps.now.ok.0, c.requires.0.1.1)))) u,
+  omega (arith, c.requires.none, c.requires.short),
+  c.requires.room,
+  λ bytes o h p ls u. subst (λ ss. UpTo bytes (at_steps o h p ls c.args.order.now ss) c.args.text.now) (sym (nil_from_length (vec_items c.args.steps.now) (omega (arith, c.args.steps.now.ok.0, c.requires.none)))) u,
 )
 
 pub returns-in_err-count : goal.returns-in_err-count
 returns-in_err-count c =
-    let e = err_from_is_err_and c.from-residual.result c.from-residual.ensures.1 in
+    let e = err_from_is_err_and c.from_residual.result c.from_residual.ensures.1 in
     let some : 0 < length c.loop-rest.rest.now = omega (arith, eqb-false _ _ (sym c.loop-rest-test.ensures)) in
     record {
       reads = rw (e.1, e.2) (λ bytes o h p ls n u.
@@ -34,7 +33,7 @@ returns-in_err-count c =
 
 pub returns-in_err-step : goal.returns-in_err-step
 returns-in_err-step c =
-    let e = err_from_is_err_and c.from-residual-in_err-step.result c.from-residual-in_err-step.ensures.1 in
+    let e = err_from_is_err_and c.from_residual-in_err-step.result c.from_residual-in_err-step.ensures.1 in
     let line = c.in_ok-count.line.now in
     let l = line_err (c.args.first + c.len.result) c.step_line.result c.at_line.result c.in_err-step.field-0.0 _ (Fails (step_checks c.args.order.now line)) c.at_line.ensures c.in_err-step.was c.step_line.ensures in
     let w = c.in_ok-count.ensures in
@@ -62,7 +61,7 @@ loop-rest-preserved c =
     let is = c.in_ok-count.ensures.0 in
     let s = c.in_ok-step.step in
     let g = line_ok (c.args.first + c.len.result) c.step_line.result c.at_line.result s (λ t. (t.pick ≤ 65535) × (line ≡ spaced (arranged order (step_values t)))) _ c.at_line.ensures c.in_ok-step.was c.step_line.ensures in
-    let cut = cut_of order (step_values s) line c.requires.0.0 (omega arith) (step_fields s g.0) g.1 in
+    let cut = cut_of order (step_values s) line c.requires.order (omega arith) (step_fields s g.0) g.1 in
     let four = four_bytes c.loop-rest.rest.now line after _ is cut.0 cut.1 in (
       omega (arith, four, c.push_reserved.ensures.len, c.loop-rest.invariant.0),
       omega (arith, c.push_reserved.ensures.capacity, c.loop-rest.invariant.1),

@@ -1,4 +1,4 @@
-use Rattle.std.proofs.Common.{◌≡◌, ℕ, ◌+◌, ◌*◌, ◌≤◌, List, [], length, vec_items, vec_len, vec_capacity}
+use Rattle.std.proofs.Common.{ℕ, ◌+◌, ◌*◌, ◌≤◌, List, [], length, vec_items, vec_len, vec_capacity}
 use Rattle.mesh.specs.declared.link.Link.{Link}
 use Rattle.vocab.specs.declared.kinds.Setting.{Setting}
 use Rattle.format.specs.Verdict.{UpTo, at_steps}

@@ -1,32 +1,30 @@
-use Rattle.std.proofs.Common.{◌≡◌, ℕ, ◌+◌, ◌≤◌, List, [], ◌∷◌, ◌++◌, length, vec_items, sym, refl, ap, ◌∙◌, subst, inl, inr, append-nil, arith}
+use Rattle.std.proofs.Common.{◌≡◌, ◌+◌, ◌≤◌, [], ◌∷◌, ◌++◌, length, vec_items, sym, refl, ap, ◌∙◌, subst, append-nil, arith}
 use Rattle.std.proofs.ByRecursion.{All-get_or}
 use Rattle.std.proofs.lemmas.List.{length-append}
 use Rattle.std.proofs.lemmas.Result.{err_from_is_err_and}
 use Rattle.fault.specs.Checks.{Fails}
 use Rattle.text.specs.Lines.{spaced}
 use Rattle.vocab.specs.declared.kinds.Table.TheVariants.{Steps}
-use Rattle.vocab.specs.declared.kinds.Setting.{Setting}
 use Rattle.vocab.specs.declared.faults.ReadFault.TheVariants.{Line}
 use Rattle.format.specs.Columns.{Order, arranged}
 use Rattle.vocab.specs.Words.{names}
-use Rattle.format.specs.Content.{Content, standard}
-use Rattle.format.specs.Stages.{LinksRead, StepsRead}
-use Rattle.format.specs.Verdict.{UpTo, Accepts, at_link_names, at_links, at_steps, before, names_checks, Judgement, accepted, refused}
+use Rattle.format.specs.Content.{standard}
+use Rattle.format.specs.Verdict.{UpTo, Accepts, at_links, at_steps, before, names_checks, accepted, refused}
 use Rattle.scan.proofs.Handed.{line_ok, line_err}
 use Rattle.format.proofs.Lengths.{standard_length}
 use Rattle.format.proofs.Single.{judged}
 use Rattle.format.proofs.Walks.{refuse, to_steps, names_line_at}
 use Rattle.session.proofs.session.Room.read.Goals as goal
-use Rattle.session.proofs.session.Room.read.Goals.{In-ok-setting, In-ok-links_text, In-Ok, In-ok-count, In-ok-at_line, In-ok-step_table}
+use Rattle.session.proofs.session.Room.read.Goals.{In_ok-setting, In_ok-links_text, In-Ok, In_ok-count, In_ok-at_line, In_ok-step_table}
 
 pub returns-in_err-setting : goal.returns-in_err-setting
 returns-in_err-setting c =
-    let p = err_from_is_err_and c.from-residual.result c.from-residual.ensures.1 in
+    let p = err_from_is_err_and c.from_residual.result c.from_residual.ensures.1 in
     record { judged = rw (p.1, p.2) (judged c.args.bytes.now (refused c.in_err-setting.field-0.0) c.in_err-setting.ensures.reads); sized = rw p.1 tt }
 
 pub returns-in_err-links_text : goal.returns-in_err-links_text
 returns-in_err-links_text c =
-    let p = err_from_is_err_and c.from-residual-in_err-links_text.result c.from-residual-in_err-links_text.ensures.1 in
+    let p = err_from_is_err_and c.from_residual-in_err-links_text.result c.from_residual-in_err-links_text.ensures.1 in
     let u = c.in_ok-setting.ensures.reads in
     record { judged = rw (p.1, p.2) (judged c.args.bytes.now (refused c.in_err-links_text.field-0.0) (c.in_err-links_text.ensures.reads c.args.bytes.now u.0 c.in_ok-setting.setting u.1)); sized = rw p.1 tt }
 
@@ -38,7 +36,7 @@ up_links c =
 
 pub returns-in_err-count : goal.returns-in_err-count
 returns-in_err-count c =
-    let p = err_from_is_err_and c.from-residual-in_err-count.result c.from-residual-in_err-count.ensures.1 in
+    let p = err_from_is_err_and c.from_residual-in_err-count.result c.from_residual-in_err-count.ensures.1 in
     let o = c.in_ok-setting.ensures.reads.0 in
     let h = c.in_ok-setting.setting in
     record {
@@ -49,7 +47,7 @@ returns-in_err-count c =
     }
 
 -- up to the line after the links
-up_names : (c : In-ok-count) → UpTo c.args.bytes.now (at_links c.in_ok-setting.ensures.reads.0 c.in_ok-setting.setting (vec_items c.link_names.new.columns) (vec_items c.link_table.new.mesh.links)) (c.in_ok-count.line.now ++ 10 ∷ c.in_ok-count.steps_text.now)
+up_names : (c : In_ok-count) → UpTo c.args.bytes.now (at_links c.in_ok-setting.ensures.reads.0 c.in_ok-setting.setting (vec_items c.link_names.new.columns) (vec_items c.link_table.new.mesh.links)) (c.in_ok-count.line.now ++ 10 ∷ c.in_ok-count.steps_text.now)
 up_names c =
     let o = c.in_ok-setting.ensures.reads.0 in
     let h = c.in_ok-setting.setting in
@@ -62,7 +60,7 @@ up_names c =
 
 pub returns-in_err-at_line : goal.returns-in_err-at_line
 returns-in_err-at_line c =
-    let e = err_from_is_err_and c.from-residual-in_err-at_line.result c.from-residual-in_err-at_line.ensures.1 in
+    let e = err_from_is_err_and c.from_residual-in_err-at_line.result c.from_residual-in_err-at_line.ensures.1 in
     let o = c.in_ok-setting.ensures.reads.0 in
     let h = c.in_ok-setting.setting in
     let p = vec_items c.link_names.new.columns in
@@ -73,44 +71,45 @@ returns-in_err-at_line c =
     let n : 4 + c.len-number.result ≡ 4 + length ls = omega (arith, c.len-number.ensures, c.link_table.new.mesh.links.ok.0) in
     record {
       judged = rw (e.1, e.2) (judged c.args.bytes.now (refused c.in_err-at_line.field-0.0)
-          (refuse c.args.bytes.now (at_links o h p ls) _ line c.in_ok-count.steps_text.now l.0 c.in_err-at_line.field-0.0 (up_names (goal.at.returns-in_err-at_line c).In-ok-count) refl r.cut.0 r.cut.1.0
+          (refuse c.args.bytes.now (at_links o h p ls) _ line c.in_ok-count.steps_text.now l.0 c.in_err-at_line.field-0.0 (up_names (goal.at.returns-in_err-at_line c).In_ok-count) refl r.cut.0 r.cut.1.0
           (subst (λ cs. Fails cs l.0) (names_line_at o h p ls line r.ends) l.1) (l.2 ∙ ap (λ x. Line x l.0) n)));
       sized = rw e.1 tt;
     }
 
 -- the names of the steps
-named : (c : In-ok-at_line) → Order 2 (vec_items c.names_line.new.order) × (c.in_ok-count.line.now ≡ spaced (arranged (vec_items c.names_line.new.order) (names Steps)))
+named : (c : In_ok-at_line) → Order 2 (vec_items c.names_line.new.order) × (c.in_ok-count.line.now ≡ spaced (arranged (vec_items c.names_line.new.order) (names Steps)))
 named c =
     let q = vec_items c.names_line.new.order in
     line_ok (4 + c.len-number.result) c.names_line.result c.at_line.result c.in_ok-at_line.field-0 (λ _. Order 2 q × (c.in_ok-count.line.now ≡ spaced (arranged q (names Steps)))) _ c.at_line.ensures c.in_ok-at_line.was c.names_line.ensures.reads
 
 -- up to the first step
-up_steps : (c : In-ok-at_line) (u : UpTo c.args.bytes.now (at_links c.in_ok-setting.ensures.reads.0 c.in_ok-setting.setting (vec_items c.link_names.new.columns) (vec_items c.link_table.new.mesh.links)) (c.in_ok-count.line.now ++ 10 ∷ c.in_ok-count.steps_text.now)) → UpTo c.args.bytes.now (at_steps c.in_ok-setting.ensures.reads.0 c.in_ok-setting.setting (vec_items c.link_names.new.columns) (vec_items c.link_table.new.mesh.links) (vec_items c.names_line.new.order) []) c.in_ok-count.steps_text.now
+up_steps : (c : In_ok-at_line) (u : UpTo c.args.bytes.now (at_links c.in_ok-setting.ensures.reads.0 c.in_ok-setting.setting (vec_items c.link_names.new.columns) (vec_items c.link_table.new.mesh.links)) (c.in_ok-count.line.now ++ 10 ∷ c.in_ok-count.steps_text.now)) → UpTo c.args.bytes.now (at_steps c.in_ok-setting.ensures.reads.0 c.in_ok-setting.setting (vec_items c.link_names.new.columns) (vec_items c.link_table.new.mesh.links) (vec_items c.names_line.new.order) []) c.in_ok-count.steps_text.now
 up_steps c u =
     let n = named c in
     to_steps c.args.bytes.now _ c.in_ok-count.line.now c.in_ok-count.steps_text.now refl c.in_ok-setting.ensures.reads.0 c.in_ok-setting.setting (vec_items c.link_names.new.columns) (vec_items c.link_table.new.mesh.links) (vec_items c.names_line.new.order) u n.0 n.1
 
 pub step_table-requires : goal.step_table-requires
 step_table-requires c =
-    let a = (goal.at.step_table-requires c).In-ok-at_line in
-    let u = up_names (goal.at.step_table-requires c).In-ok-count in
+    let a = (goal.at.step_table-requires c).In_ok-at_line in
+    let u = up_names (goal.at.step_table-requires c).In_ok-count in
     let n = named a in
-    let m = c.link_table.new.mesh in (
-      (subst (Order 2) (sym c.deref-2.ensures.value) n.0, (omega (arith, c.len-number.ensures, m.few), c.args.self.empty)),
-      (
-        omega (arith, u.short, ap length u.is, length-append (before (at_links c.in_ok-setting.ensures.reads.0 c.in_ok-setting.setting (vec_items c.link_names.new.columns) (vec_items m.links))) (c.in_ok-count.line.now ++ 10 ∷ c.in_ok-count.steps_text.now), length-append c.in_ok-count.line.now (10 ∷ c.in_ok-count.steps_text.now)),
-        c.args.self.enough,
-      ),
-    )
+    let m = c.link_table.new.mesh in
+    record {
+      order = subst (Order 2) (sym c.deref-2.ensures.value) n.0;
+      near = omega (arith, c.len-number.ensures, m.few);
+      none = c.args.self.empty;
+      short = omega (arith, u.short, ap length u.is, length-append (before (at_links c.in_ok-setting.ensures.reads.0 c.in_ok-setting.setting (vec_items c.link_names.new.columns) (vec_items m.links))) (c.in_ok-count.line.now ++ 10 ∷ c.in_ok-count.steps_text.now), length-append c.in_ok-count.line.now (10 ∷ c.in_ok-count.steps_text.now));
+      room = c.args.self.enough;
+    }
 
 pub returns-in_err-step_table : goal.returns-in_err-step_table
 returns-in_err-step_table c =
-    let e = err_from_is_err_and c.from-residual-in_err-step_table.result c.from-residual-in_err-step_table.ensures.1 in
+    let e = err_from_is_err_and c.from_residual-in_err-step_table.result c.from_residual-in_err-step_table.ensures.1 in
     let o = c.in_ok-setting.ensures.reads.0 in
     let h = c.in_ok-setting.setting in
     let p = vec_items c.link_names.new.columns in
     let ls = vec_items c.link_table.new.mesh.links in
-    let u = up_steps (goal.at.returns-in_err-step_table c).In-ok-at_line (up_names (goal.at.returns-in_err-step_table c).In-ok-count) in
+    let u = up_steps (goal.at.returns-in_err-step_table c).In_ok-at_line (up_names (goal.at.returns-in_err-step_table c).In_ok-count) in
     record {
       judged = rw (e.1, e.2) (judged c.args.bytes.now (refused c.in_err-step_table.field-0.0)
           (c.in_err-step_table.ensures.reads c.args.bytes.now o h p ls (omega (arith, c.len-number.ensures, c.link_table.new.mesh.links.ok.0))
@@ -119,7 +118,7 @@ returns-in_err-step_table c =
     }
 
 -- up to the end
-up_end : (c : In-ok-step_table) (u : UpTo c.args.bytes.now (at_steps c.in_ok-setting.ensures.reads.0 c.in_ok-setting.setting (vec_items c.link_names.new.columns) (vec_items c.link_table.new.mesh.links) (vec_items c.names_line.new.order) []) c.in_ok-count.steps_text.now) → UpTo c.args.bytes.now (at_steps c.in_ok-setting.ensures.reads.0 c.in_ok-setting.setting (vec_items c.link_names.new.columns) (vec_items c.link_table.new.mesh.links) (vec_items c.names_line.new.order) (vec_items c.step_table.new.steps)) []
+up_end : (c : In_ok-step_table) (u : UpTo c.args.bytes.now (at_steps c.in_ok-setting.ensures.reads.0 c.in_ok-setting.setting (vec_items c.link_names.new.columns) (vec_items c.link_table.new.mesh.links) (vec_items c.names_line.new.order) []) c.in_ok-count.steps_text.now) → UpTo c.args.bytes.now (at_steps c.in_ok-setting.ensures.reads.0 c.in_ok-setting.setting (vec_items c.link_names.new.columns) (vec_items c.link_table.new.mesh.links) (vec_items c.names_line.new.order) (vec_items c.step_table.new.steps)) []
 up_end c u =
     let o = c.in_ok-setting.ensures.reads.0 in
     let h = c.in_ok-setting.setting in
@@ -130,7 +129,7 @@ up_end c u =
     (c.in_ok-step_table.ensures.reads bytes o h p ls (subst (λ x. UpTo bytes (at_steps o h p ls x []) c.in_ok-count.steps_text.now) (sym c.deref-2.ensures.value) u))
 
 -- the mesh has the nodes and the root of the settings
-same_setting : (c : In-ok-step_table) → c.in_ok-setting.setting ≡ record { nodes = c.link_table.new.mesh.nodes; root = c.link_table.new.mesh.root; kind = c.in_ok-setting.setting.kind; detector = c.in_ok-setting.setting.detector; channel = c.in_ok-setting.setting.channel }
+same_setting : (c : In_ok-step_table) → c.in_ok-setting.setting ≡ record { nodes = c.link_table.new.mesh.nodes; root = c.link_table.new.mesh.root; kind = c.in_ok-setting.setting.kind; detector = c.in_ok-setting.setting.detector; channel = c.in_ok-setting.setting.channel }
 same_setting c =
     let h = c.in_ok-setting.setting in
     let e = sym (c.in_ok-count.ensures.nodes ∙ c.in-Ok.ensures.1) in
@@ -138,7 +137,7 @@ same_setting c =
     λ i. record { nodes = e i; root = f i; kind = h.kind; detector = h.detector; channel = h.channel }
 
 -- the file writes this content
-writes : (c : In-ok-step_table) (u : UpTo c.args.bytes.now (at_steps c.in_ok-setting.ensures.reads.0 c.in_ok-setting.setting (vec_items c.link_names.new.columns) (vec_items c.link_table.new.mesh.links) (vec_items c.names_line.new.order) (vec_items c.step_table.new.steps)) []) → Accepts c.args.bytes.now (record { setting = record { nodes = c.link_table.new.mesh.nodes; root = c.link_table.new.mesh.root; kind = c.in_ok-setting.setting.kind; detector = c.in_ok-setting.setting.detector; channel = c.in_ok-setting.setting.channel }; links = vec_items c.link_table.new.mesh.links; steps = vec_items c.step_table.new.steps })
+writes : (c : In_ok-step_table) (u : UpTo c.args.bytes.now (at_steps c.in_ok-setting.ensures.reads.0 c.in_ok-setting.setting (vec_items c.link_names.new.columns) (vec_items c.link_table.new.mesh.links) (vec_items c.names_line.new.order) (vec_items c.step_table.new.steps)) []) → Accepts c.args.bytes.now (record { setting = record { nodes = c.link_table.new.mesh.nodes; root = c.link_table.new.mesh.root; kind = c.in_ok-setting.setting.kind; detector = c.in_ok-setting.setting.detector; channel = c.in_ok-setting.setting.channel }; links = vec_items c.link_table.new.mesh.links; steps = vec_items c.step_table.new.steps })
 writes c u =
     let ls = vec_items c.link_table.new.mesh.links in
     let ss = vec_items c.step_table.new.steps in
@@ -147,19 +146,20 @@ writes c u =
     (_, _, _, u.short, s.0, s.2, s.4, record { setting = s.1; links = s.3; steps = s.5 }, u.is ∙ append-nil _)
 
 -- the text in the standard order is as long as the file
-long : (c : In-ok-step_table) (u : UpTo c.args.bytes.now (at_steps c.in_ok-setting.ensures.reads.0 c.in_ok-setting.setting (vec_items c.link_names.new.columns) (vec_items c.link_table.new.mesh.links) (vec_items c.names_line.new.order) (vec_items c.step_table.new.steps)) []) → length (standard (record { setting = record { nodes = c.link_table.new.mesh.nodes; root = c.link_table.new.mesh.root; kind = c.in_ok-setting.setting.kind; detector = c.in_ok-setting.setting.detector; channel = c.in_ok-setting.setting.channel }; links = vec_items c.link_table.new.mesh.links; steps = vec_items c.step_table.new.steps })) ≡ length c.args.bytes.now
+long : (c : In_ok-step_table) (u : UpTo c.args.bytes.now (at_steps c.in_ok-setting.ensures.reads.0 c.in_ok-setting.setting (vec_items c.link_names.new.columns) (vec_items c.link_table.new.mesh.links) (vec_items c.names_line.new.order) (vec_items c.step_table.new.steps)) []) → length (standard (record { setting = record { nodes = c.link_table.new.mesh.nodes; root = c.link_table.new.mesh.root; kind = c.in_ok-setting.setting.kind; detector = c.in_ok-setting.setting.detector; channel = c.in_ok-setting.setting.channel }; links = vec_items c.link_table.new.mesh.links; steps = vec_items c.step_table.new.steps })) ≡ length c.args.bytes.now
 long c u = let w = writes c u in standard_length w.0 w.1 w.2 _ w.4 w.5 w.6 ∙ ap length (sym w.8)
 
 pub invariant_of-result : goal.invariant_of-result
 invariant_of-result c =
-    let a = (goal.at.invariant_of-result c).In-ok-step_table in
-    let u = up_end a (up_steps (goal.at.invariant_of-result c).In-ok-at_line (up_names (goal.at.invariant_of-result c).In-ok-count)) in (
-      λ k d l. All-get_or (λ s. s.pick ≤ 65535) (vec_items c.step_table.new.steps) k d l u.sound.5,
-      (omega (arith, long a u, u.short), tt),
-    )
+    let a = (goal.at.invariant_of-result c).In_ok-step_table in
+    let u = up_end a (up_steps (goal.at.invariant_of-result c).In_ok-at_line (up_names (goal.at.invariant_of-result c).In_ok-count)) in
+    record {
+      picks = λ k d l. All-get_or (λ s. s.pick ≤ 65535) (vec_items c.step_table.new.steps) k d l u.sound.5;
+      short = omega (arith, long a u, u.short);
+    }
 
 pub returns : goal.returns
 returns c =
-    let a = (goal.at.returns c).In-ok-step_table in
-    let u = up_end a (up_steps (goal.at.returns c).In-ok-at_line (up_names (goal.at.returns c).In-ok-count)) in
+    let a = (goal.at.returns c).In_ok-step_table in
+    let u = up_end a (up_steps (goal.at.returns c).In_ok-at_line (up_names (goal.at.returns c).In_ok-count)) in
     record { judged = judged c.args.bytes.now (accepted _) (writes a u); sized = long a u }
