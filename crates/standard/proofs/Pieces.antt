@@ -1,5 +1,5 @@
 -- Lines written field by field, and tables line by line.
-use Rattle.std.proofs.Common.{◌≡◌, ℕ, zero, suc, ◌+◌, ◌/◌, ◌%◌, ◌^◌, ◌<◌, ◌≤◌, Bool, true, false, cond, eqb, List, [], ◌∷◌, ◌++◌, map, length, get_or, take, drop, Ok, Err, vec_items, codes, decimal, Result, sym, refl, ap, ◌∙◌, subst, append_assoc, append-nil, zero-add, arith}
+use Rattle.std.proofs.Common.{◌≡◌, ℕ, zero, suc, ◌+◌, ◌/◌, ◌%◌, ◌^◌, ◌<◌, ◌≤◌, true, false, cond, eqb, List, [], ◌∷◌, ◌++◌, map, length, get_or, take, drop, Ok, Err, vec_items, codes, decimal, Result, sym, refl, ap, ◌∙◌, subst, append_assoc, append-nil, zero-add, arith}
 use Rattle.std.specs.List.{flat_map}
 use Rattle.std.proofs.lemmas.List.{take_more, map_push, flat_map_more, length-append}
 use Rattle.std.specs.Fmt.{digits, digits_onto, digit_glyph}
@@ -20,7 +20,7 @@ use Rattle.format.proofs.Single.{judged}
 use Rattle.standard.specs.Report.{fault_text, report_text}
 use Rattle.text.specs.Lines.{spaced}
 use Rattle.text.specs.Output.{Puts}
-use Rattle.text.proofs.Stamps.{none, then, at_front}
+use Rattle.text.proofs.Stamps.{at_front}
 
 pub same : {old new s t : List ℕ} {at end : ℕ} → s ≡ t → Puts old at s new end → Puts old at t new end
 same {old} {new} {s} {t} {at} {end} e w = subst (λ x. Puts old at x new end) e w

@@ -1,4 +1,4 @@
-use Rattle.std.proofs.Common.{◌≡◌, [], ◌∷◌, ◌++◌, codes, decimal, sym, ap, ◌∙◌}
+use Rattle.std.proofs.Common.{[], ◌∷◌, ◌++◌, codes, decimal, ap, ◌∙◌}
 use Rattle.text.proofs.Stamps.{then}
 use Rattle.fault.specs.Layers.{layer_word}
 use Rattle.fault.specs.declared.Layer.TheVariants.{Reader}

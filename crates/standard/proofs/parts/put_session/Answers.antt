@@ -1,4 +1,4 @@
-use Rattle.std.proofs.Common.{◌≡◌, [], ◌∷◌, ◌++◌, map, vec_items, sym, ap}
+use Rattle.std.proofs.Common.{[], ◌∷◌, map, vec_items, ap}
 use Rattle.std.specs.List.{flat_map}
 use Rattle.text.proofs.Stamps.{then}
 use Rattle.vocab.specs.declared.kinds.Table.TheVariants.{Links, Steps}

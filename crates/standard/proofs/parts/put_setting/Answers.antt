@@ -1,4 +1,4 @@
-use Rattle.std.proofs.Common.{◌≡◌, [], ◌∷◌, ◌++◌, sym, ap}
+use Rattle.std.proofs.Common.{[], ◌∷◌, ◌++◌, ap}
 use Rattle.text.proofs.Stamps.{then}
 use Rattle.vocab.specs.declared.kinds.Table.TheVariants.{Settings}
 use Rattle.format.specs.Columns.{row}

@@ -1,4 +1,4 @@
-use Rattle.std.proofs.Common.{◌≡◌, [], ◌∷◌, ◌++◌, sym, ap}
+use Rattle.std.proofs.Common.{[], ◌∷◌, ◌++◌, ap}
 use Rattle.text.proofs.Stamps.{then}
 use Rattle.standard.proofs.Pieces.{same, line2}
 use Rattle.standard.proofs.parts.put_step.Goals as goal

@@ -1,6 +1,6 @@
-use Rattle.std.proofs.Common.{◌≡◌, [], ◌∷◌, ◌++◌, map, length, get_or, take, sym, ap, subst}
+use Rattle.std.proofs.Common.{[], ◌∷◌, map, sym, ap}
 use Rattle.std.specs.List.{flat_map}
-use Rattle.std.proofs.lemmas.List.{take_all, get_or_default}
+use Rattle.std.proofs.lemmas.List.{take_all}
 use Rattle.text.proofs.Stamps.{none, then}
 use Rattle.format.specs.Columns.{row}
 use Rattle.format.specs.Tables.{step_values}

@@ -1,4 +1,4 @@
-use Rattle.std.proofs.Common.{◌≡◌, sym, ap}
+use Rattle.std.proofs.Common.{sym, ap}
 use Rattle.session.specs.Seen.{judgement}
 use Rattle.standard.specs.Report.{report_text}
 use Rattle.standard.proofs.Pieces.{same}
