@@ -4,7 +4,7 @@ ghost use Rattle.format.specs.Columns.{Order};
 ghost use Rattle.format.specs.Stages.{LinkNamesRead, LinkNamesRefused, LinksRead, LinksRefused, StepsRead, StepsRefused};
 ghost use Rattle.format.specs.Verdict.{UpTo, Refuses, at_link_names, Judged};
 ghost use Rattle.format.specs.Content.{standard};
-ghost use Rattle.session.specs.Seen.{content, judgement};
+ghost use Rattle.session.specs.Seen.{content, judgement, Answers};
 
 use crate::columns::names_line;
 use crate::lines::{link_line, setting_line, step_line};
@@ -12,7 +12,7 @@ use crate::session::{Room, Session};
 use mesh::mesh::{LinkRoom, Mesh};
 use scan::lines::{at_line, is_link_line, next_line};
 use std::alloc::{AllocError, Global};
-use vocab::faults::ReadFault;
+use vocab::faults::{ReadError, ReadFault};
 use vocab::kinds::{Setting, Step, Table};
 
 /// The most bytes a session file may have.
@@ -149,4 +149,12 @@ impl Room {
             steps,
         })
     }
+}
+
+/// Reads a session file with memory of its own: reserves it first, and then reads.
+pub fn read(heap: Global, bytes: &[u8]) -> Result<Session, ReadError>
+    ensures { Answers bytes.now result }
+{
+    let room = Room::reserve(heap)?;
+    Ok(room.read(bytes)?)
 }

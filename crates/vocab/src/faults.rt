@@ -2,10 +2,12 @@
 ghost use Rattle.std.specs.Prelude.{◌≡◌};
 ghost use Rattle.fault.specs.declared.Layer.TheVariants.{Reader};
 ghost use Rattle.vocab.specs.declared.faults.LineFault.TheVariants.{BadLink};
+ghost use Rattle.vocab.specs.declared.faults.ReadError.TheVariants.{Memory, Fault};
 ghost use Rattle.vocab.specs.Faults.{line_fault_number, line_fault_field, fault_number, fault_line, fault_field};
 
 use fault::Layer;
 use mesh::link::LinkFault;
+use std::alloc::AllocError;
 
 /// Why a line is refused.
 #[derive(Clone, Copy)]
@@ -104,5 +106,28 @@ impl ReadFault {
         ensures { result ≡ Reader }
     {
         Layer::Reader
+    }
+}
+
+/// Why a file gave no session: a fault of its own, or want of memory before it was looked at.
+#[derive(Clone, Copy)]
+pub enum ReadError {
+    Fault(ReadFault),
+    Memory,
+}
+
+impl From<ReadFault> for ReadError {
+    ghost from_gives = { λ e r. r ≡ Fault e };
+
+    fn from(e: ReadFault) -> ReadError {
+        ReadError::Fault(e)
+    }
+}
+
+impl From<AllocError> for ReadError {
+    ghost from_gives = { λ _ r. r ≡ Memory };
+
+    fn from(_e: AllocError) -> ReadError {
+        ReadError::Memory
     }
 }
