@@ -1,6 +1,6 @@
 -- The stack and the picked channel as channels over slots: the stack takes the newest item, picked the one at the pick's
 -- place modulo the number waiting. Each meaning is total: it makes sense of any slots and any numbers.
-use Rattle.std.specs.Prelude.{ℕ, ◌-◌, ◌%◌, List, length, take}
+use Rattle.std.specs.Prelude.{◌-◌, ◌%◌, List, length, take}
 use Rattle.std.proofs.Common.{mod-lt, arith, length-take}
 use Rattle.channel.specs.declared.item.Item.{Item}
 use Rattle.channel.specs.Holds.{Holding, Sound}

@@ -1,4 +1,4 @@
-use Rattle.std.proofs.Common.{◌≡◌, ◌-◌, ◌%◌, ◌<◌, ◌≤◌, length, get_or, take, drop, sym, refl, ap, ◌∙◌, subst, mod-lt, arith}
+use Rattle.std.proofs.Common.{◌≡◌, ◌-◌, ◌%◌, ◌<◌, length, get_or, take, sym, refl, ap, ◌∙◌, subst, mod-lt, arith}
 use borrow.Rule.Slice.PartMut.{put_mid, same_len_mid}
 use Rattle.std.proofs.lemmas.List.{length-take}
 use Rattle.channel.specs.Holds.{TakenAt}
@@ -18,14 +18,14 @@ returns g c =
     let n = c.min-count.result in
     let p = c.args.pick % n in
     let d = c.index-self-place.result in
-    let mid = c.rotate-left.new.self in
+    let mid = c.rotate_left.new.self in
     let left = take (n - 1) (put_mid p (n - p) xs mid) in
     let low : p < n = mod-lt c.args.pick (omega arith) in
     let count : n ≡ length (take k xs) = c.min-count.ensures ∙ sym (length-take k xs) in
     let same : take n xs ≡ take k xs = ap (λ m. take m xs) count ∙ take_len k xs in
     let t : TakenAt (take k xs) left p (get_or xs p d) =
-    subst (λ o. TakenAt o left p (get_or xs p d)) same (part_taken xs mid p n d low (omega (arith, length-take k xs)) c.rotate-left.ensures.after) in
+    subst (λ o. TakenAt o left p (get_or xs p d)) same (part_taken xs mid p n d low (omega (arith, length-take k xs)) c.rotate_left.ensures.after) in
     record {
       taken = subst (λ m. TakenAt (take k xs) left (c.args.pick % m) (get_or xs p d)) count t;
-      same = same_len_mid p (n - p) xs mid c.rotate-left.ensures.len;
+      same = same_len_mid p (n - p) xs mid c.rotate_left.ensures.len;
     }
