@@ -11,7 +11,7 @@ use ring::queue::Queue;
 
 // Puts so many numbers, counting up from `first` and round the end.
 fn fill<C: Channel<u32>>(c: &mut C, first: u32, count: u32) -> Result<(), ChannelFault>
-    ensures { Filled holds c.old first count c.new result }
+    ensures { Filled C.holds c.old first count c.new result }
 {
     for k in 0..count {
         c.put(first.wrapping_add(k))?;
@@ -21,7 +21,7 @@ fn fill<C: Channel<u32>>(c: &mut C, first: u32, count: u32) -> Result<(), Channe
 
 // Takes so many items, the first pick being 7 times `first`, and each next one 7 more; the sum of the items.
 fn drain<C: Channel<u32>>(c: &mut C, first: u32, count: u32) -> Result<u64, ChannelFault>
-    ensures { Drained holds c.old first count c.new result }
+    ensures { Drained C.holds c.old first count c.new result }
 {
     let mut sum: u64 = 0;
     for k in 0..count {
@@ -34,7 +34,7 @@ fn drain<C: Channel<u32>>(c: &mut C, first: u32, count: u32) -> Result<u64, Chan
 
 // Puts `burst` items and takes as many, in each round; the sum of the items taken.
 fn run<C: Channel<u32>>(c: &mut C, burst: u32, rounds: u32) -> Result<u64, ChannelFault>
-    ensures { Summed holds c.old burst rounds c.new result }
+    ensures { Summed C.holds c.old burst rounds c.new result }
 {
     let mut sum: u64 = 0;
     for round in 0..rounds {
@@ -46,7 +46,7 @@ fn run<C: Channel<u32>>(c: &mut C, burst: u32, rounds: u32) -> Result<u64, Chann
 
 // The sum of the items taken in so many rounds, after `waiting` were put; 0 where the channel refused.
 fn sum_of<C: Channel<u32>>(c: &mut C, waiting: u32, burst: u32, rounds: u32) -> u64
-    ensures { Sum holds c.old waiting burst rounds result }
+    ensures { Sum C.holds c.old waiting burst rounds result }
 {
     if fill(c, 0, waiting).is_err() {
         return 0;

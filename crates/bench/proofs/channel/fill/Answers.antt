@@ -11,7 +11,7 @@ loop-k-preserved g c =
     let old = g.C.Channel.holds.waits c.args.c.now in
     let first = c.args.first in
     let n = c.loop-k.k in
-    c.in-ok-put.ensures.added.1
+    c.in_ok-put.ensures.added.1
     ∙ ap (λ xs. xs ++ (record { parts = (first + n) % 2 ^ 32 } ∷ [])) c.loop-k.invariant
     ∙ append_assoc old (numbered first n) _
     ∙ ap (λ xs. old ++ xs) (sym (numbered_more first n))
