@@ -1,15 +1,16 @@
 -- The worked cases hold.
 use Rattle.std.proofs.Common.{◌≡◌, ℕ, zero, suc, ◌+◌, ◌<◌, ◌≤◌, true, false, eqb, List, [], ◌∷◌, get_or, replicate, is_some, sym, refl, ap, ◌∙◌, inl, inr, le_of_eq, arith}
-use Rattle.std.specs.List.{AllByRecursion as All}
+use Rattle.std.specs.List.{AllByRecursion}
 use Rattle.std.proofs.lemmas.Bool.{both_ways, cases_eq, true≢false, eq-eqb, ne_eqb, or_from, or_left}
 use Rattle.credit.specs.declared.credit.Credit.{Credit}
 use Rattle.credit.specs.Places.{value, whole, credit_of, Added}
 use Rattle.credit.specs.Meaning.{is_last}
 use Rattle.credit.specs.Worked.{among, Exactly, Worked}
-use Rattle.credit.specs.ValuesLemmas.{value_none, value_some, whole_sum, whole_room, whole_closed, credit_whole, replicated}
+use Rattle.credit.specs.ValuesLemmas.{value_none, whole_sum, credit_whole, replicated}
+use Rattle.credit.proofs.Values.{value_some, whole_room, whole_closed}
 
 -- a place above all of these is not one of them
-above_all : (ps : List ℕ) (k : ℕ) → All (λ p. p < k) ps → among ps k ≡ false
+above_all : (ps : List ℕ) (k : ℕ) → AllByRecursion (λ p. p < k) ps → among ps k ≡ false
 above_all [] k below = refl
 above_all (p ∷ ps) k below = or_from (eqb k p) (among ps k) (ne_eqb k p (λ at. omega (arith, at, below.0))) (above_all ps k below.1)
 

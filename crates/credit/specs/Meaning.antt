@@ -1,6 +1,5 @@
 -- What the credit detector means: what it shows, and its balance, by which all credit together is one.
-use Rattle.std.specs.Prelude.{◌≡◌, ℕ, ◌+◌, ◌≤◌, Bool, false, List, length, get_or, is_some, Some, None, sum_by, count_by, Option, nat_le, slice_index_or}
-use Rattle.std.specs.List.{AllByRecursion as All}
+use Rattle.std.specs.Prelude.{◌≡◌, ℕ, ◌+◌, ◌≤◌, Bool, false, List, length, get_or, is_some, Some, None, sum_by, count_by, All, Option, nat_le, slice_index_or}
 use Rattle.detector.specs.Meaning.{Meaning}
 use Rattle.credit.specs.declared.credit.Credit.{Credit}
 use Rattle.credit.specs.Holdings.{holding}

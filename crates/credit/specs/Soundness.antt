@@ -1,12 +1,11 @@
 -- The credit detector keeps the laws of a detector.
-use Rattle.std.specs.Prelude.{◌≡◌, ℕ, suc, ◌+◌, ◌<◌, ◌≤◌, true, false, ◌≢◌, List, [], ◌∷◌, length, get_or, replicate, is_some, Some, None, sum_by, Option, slice_index_or, slice_set, refl}
+use Rattle.std.specs.Prelude.{◌≡◌, ℕ, suc, ◌+◌, ◌<◌, ◌≤◌, true, false, ◌≢◌, List, [], ◌∷◌, length, get_or, replicate, is_some, Some, None, sum_by, All, Option, slice_index_or, slice_set, refl}
 use Rattle.std.proofs.Common.{sym, ap, subst, ◌∙◌, inl, inr, arith}
-use Rattle.std.specs.List.{AllByRecursion as All}
 use Rattle.std.specs.List.Sorted.{IsPermutation}
 use Rattle.std.proofs.lemmas.List.{get_or_past, get_or-set_same, get_or-set_other, length-replicate}
 use Rattle.std.proofs.lemmas.List.Sums.{get_or-le-sum_by, sum_by-cons, sum_by-set}
-use Rattle.std.proofs.lemmas.List.Sorted.{sum_by-IsPermutation, length_permutation}
-use Rattle.std.proofs.ByRecursion.{all_shuffled}
+use Rattle.std.proofs.lemmas.List.Elements.{All-nil, All-cons, All-head, All-tail}
+use Rattle.std.proofs.lemmas.List.Sorted.{All-permutation, sum_by-IsPermutation, length_permutation}
 use Rattle.std.proofs.lemmas.Bool.{both_ways, cases_Bool, cases_lt, cases_eq, leb-false}
 use Rattle.fault.specs.Checks.{Passes}
 use Rattle.detector.specs.Calls.{sent_checks, received_checks, idled_checks}
@@ -54,7 +53,7 @@ sending d e node mark passes s =
       balanced = λ marks items b. balance_kept d e node (Some mark) inside s.holds marks items (mark ∷ marks) items b
           (omega (arith, was, half, credit_halves x few, sum_by-cons credit_of mark marks))
           (λ y is. let same : mark ≡ y = cc in omega arith)
-          ((omega arith, omega arith), b.marks_within) b.items_within;
+          (All-cons PossibleMark mark marks (omega arith, omega arith) b.marks_within) b.items_within;
       owing = λ marks items b. omega (arith, count_changes d e node (Some mark) inside s.holds, ap one_in s.held);
     }
 
@@ -78,7 +77,7 @@ kept_within (Some y) mark held few x is = held x is
 
 returned_within : (o : Option ℕ) (mark : ℕ) (items : List ℕ) → ((x : ℕ) → o ≡ Some x → x ≤ 1000) → mark ≤ 1000 → All (λ i. i ≤ 1000) items → All (λ i. i ≤ 1000) (with_answer (returned o mark) items)
 returned_within None mark items held few all = all
-returned_within (Some y) mark items held few all = (few, all)
+returned_within (Some y) mark items held few all = All-cons (λ i. i ≤ 1000) mark items few all
 
 -- Received: the credit of the mark goes to the node or into the item, so none is lost. The items owed for the mark and for
 -- the node are as many as before, less the one answered.
@@ -91,7 +90,7 @@ receiving d e node mark item passes s =
       balanced = balance_kept d e node (kept o mark) inside s.holds (mark ∷ marks) items marks (with_answer (returned o mark) items) b
           (omega (arith, received_credit o mark, answer_credits (returned o mark) items, sum_by-cons credit_of mark marks))
           (kept_within o mark (b.held_within node) passes.1.0.1)
-          b.marks_within.1
+          (All-tail PossibleMark mark marks b.marks_within)
           (returned_within o mark items (b.held_within node) passes.1.0.1 b.items_within);
       owing = omega (arith, received_count o mark, count_changes d e node (kept o mark) inside s.holds);
     } in
@@ -112,7 +111,7 @@ idling d e node item passes s =
           (omega (arith, was, sum_by-cons credit_of x items))
           (λ y is. let z : ◌≡◌ {A = ℕ} 0 1 = cc in absurd (omega arith))
           b.marks_within
-          (b.held_within node x s.held, b.items_within);
+          (All-cons (λ i. i ≤ 1000) x items (b.held_within node x s.held) b.items_within);
       owing = omega (arith, count_changes d e node None inside s.holds, ap one_in s.held);
     } in
     record {
@@ -131,7 +130,7 @@ controlling d e taken item few s =
         none_past = λ k past. ap (λ rs. (get_or rs k (holding None)).held) s.records ∙ b.none_past k (omega (arith, s.nodes, past));
         held_within = λ k x is. b.held_within k x (sym (held k) ∙ is);
         marks_within = b.marks_within;
-        items_within = b.items_within.1;
+        items_within = All-tail (λ i. i ≤ 1000) taken items b.items_within;
       };
       owing = omega (arith, ap (sum_by (λ r. one_in r.held)) s.records);
     } in
@@ -198,8 +197,8 @@ module _ (nodes root : ℕ) (d : Credit) (inside : root < nodes) (s : Opened nod
         | inr ne ↦ (let none_is : ◌≡◌ {A = Option ℕ} None (Some x) = sym (rest_holds k ne) ∙ is in
             let z : ◌≡◌ {A = ℕ} 0 1 = cc none_is in absurd (omega arith))
       ];
-      marks_within = tt;
-      items_within = tt;
+      marks_within = All-nil PossibleMark;
+      items_within = All-nil (λ i. i ≤ 1000);
     };
     owed = omega (arith, opening_sum one_in refl);
   }
@@ -209,7 +208,7 @@ module _ (nodes root : ℕ) (d : Credit) (inside : root < nodes) (s : Opened nod
 
 -- An item that waits fits: its credit is a part of the one credit, beside what is recovered.
 item_taken : (d : Credit) (item : ℕ) (marks items : List ℕ) → Balanced d marks (item ∷ items) → (item ≤ 1000) × (value d.recovered.taken + credit_of item ≤ whole)
-item_taken d item marks items b = (b.items_within.0, omega (arith, b.sum, sum_by-cons credit_of item items))
+item_taken d item marks items b = (All-head (λ i. i ≤ 1000) item items b.items_within, omega (arith, b.sum, sum_by-cons credit_of item items))
 
 -- Sums, and what holds of each, do not depend on the order.
 any_order : (d : Credit) (marks items others rest : List ℕ) → IsPermutation marks others → IsPermutation items rest → Balanced d marks items → Balanced d others rest × (length others + holder_count d ≡ length marks + holder_count d)
@@ -218,8 +217,8 @@ any_order d marks items others rest ms is b = (
     sum = omega (arith, b.sum, sum_by-IsPermutation credit_of marks others ms, sum_by-IsPermutation credit_of items rest is);
     none_past = b.none_past;
     held_within = b.held_within;
-    marks_within = all_shuffled PossibleMark marks others ms b.marks_within;
-    items_within = all_shuffled (λ i. i ≤ 1000) items rest is b.items_within;
+    marks_within = All-permutation PossibleMark marks others ms b.marks_within;
+    items_within = All-permutation (λ i. i ≤ 1000) items rest is b.items_within;
   },
   ap (λ n. n + holder_count d) (length_permutation marks others ms),
 )
@@ -266,7 +265,7 @@ credit_lawful = record {
   receiving = receiving;
   idling = idling;
   controlling = λ d e taken item passes s. controlling d e taken item passes.0.0 s;
-  mark_taken = λ d mark marks items b. b.marks_within.0;
+  mark_taken = λ d mark marks items b. All-head PossibleMark mark marks b.marks_within;
   item_taken = item_taken;
   any_order = any_order;
   never_too_soon = never_too_soon;

@@ -1,7 +1,7 @@
 -- Worked cases of the rules, of any state with that exponent or with exactly those recovered places.
 use Rattle.std.specs.Prelude.{◌≡◌, ℕ, ◌<◌, ◌≤◌, Bool, true, false, ◌||◌, List, [], ◌∷◌, Some, Option, ◌==◌, slice_index_or}
 use Rattle.fault.specs.Checks.{Passes, Fails}
-use Rattle.detector.specs.declared.fault.DetectorFault.TheVariants.{BadItem, Spent}
+use Rattle.detector.specs.declared.faults.DetectorFault.TheVariants.{BadItem, Spent}
 use Rattle.detector.specs.Calls.{sent_checks, control_checks}
 use Rattle.credit.specs.declared.credit.Credit.{Credit}
 use Rattle.credit.specs.Places.{value, credit_of}

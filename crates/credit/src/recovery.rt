@@ -10,7 +10,7 @@ use crate::credit::Credit;
 use crate::holders::Holders;
 use crate::places::Places;
 use detector::detector::Detector;
-use detector::fault::DetectorFault;
+use detector::faults::DetectorFault;
 use detector::size::check_size;
 
 // The greatest exponent.

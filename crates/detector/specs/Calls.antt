@@ -2,8 +2,8 @@
 -- the first check that fails, and then nothing changes.
 use Rattle.std.specs.Prelude.{◌≡◌, ℕ, ◌<◌, ◌≤◌, true, false, List, [], ◌∷◌, Some, Ok, Err, Option, Result}
 use Rattle.fault.specs.Checks.{Check, check, Passes, Fails}
-use Rattle.detector.specs.declared.fault.DetectorFault.{DetectorFault}
-use Rattle.detector.specs.declared.fault.DetectorFault.TheVariants.{Size, NoNode, Passive, BadMark, BadItem, Spent}
+use Rattle.detector.specs.declared.faults.DetectorFault.{DetectorFault}
+use Rattle.detector.specs.declared.faults.DetectorFault.TheVariants.{Size, NoNode, Passive, BadMark, BadItem, Spent}
 use Rattle.detector.specs.declared.told.Call.{Call}
 use Rattle.detector.specs.declared.told.Call.TheVariants.{Sent, Received, Idled, Control}
 use Rattle.detector.specs.Meaning.{Meaning}

@@ -1,7 +1,7 @@
 -- The numbers of a detector's faults.
 use Rattle.std.specs.Prelude.{ℕ}
-use Rattle.detector.specs.declared.fault.DetectorFault.{DetectorFault}
-use Rattle.detector.specs.declared.fault.DetectorFault.TheVariants.{Size, NoNode, Passive, BadMark, BadItem, Spent}
+use Rattle.detector.specs.declared.faults.DetectorFault.{DetectorFault}
+use Rattle.detector.specs.declared.faults.DetectorFault.TheVariants.{Size, NoNode, Passive, BadMark, BadItem, Spent}
 
 abbrev pub detector_fault_number : DetectorFault → ℕ
 detector_fault_number Size = 20

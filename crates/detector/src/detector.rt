@@ -4,7 +4,7 @@ ghost use Rattle.detector.specs.Meaning.{Meaning};
 ghost use Rattle.detector.specs.Calls.{Opens, Sends, Receives, Idles, Controls};
 ghost use Rattle.detector.specs.Laws.{Lawful};
 
-use crate::fault::DetectorFault;
+use crate::faults::DetectorFault;
 
 /// A termination detector: it is told what the nodes do, hands out the marks that messages carry and the control items
 /// that travel beside them, and announces when no node is active and nothing is on its way.

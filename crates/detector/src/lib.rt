@@ -2,7 +2,7 @@
 #![tactic(auto)]
 
 pub mod detector;
-pub mod fault;
+pub mod faults;
 pub mod over;
 pub mod size;
 pub mod told;

@@ -1,7 +1,7 @@
 //! How many nodes a detector can have.
 ghost use Rattle.detector.specs.Calls.{SizedFor};
 
-use crate::fault::DetectorFault;
+use crate::faults::DetectorFault;
 
 /// The most nodes that a detector can have.
 pub const MOST_NODES: u16 = 64;

@@ -2,7 +2,7 @@
 ghost use Rattle.detector.specs.Calls.{Makes};
 
 use crate::detector::Detector;
-use crate::fault::DetectorFault;
+use crate::faults::DetectorFault;
 
 /// What a detector can be told.
 #[derive(Clone, Copy)]

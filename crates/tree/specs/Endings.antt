@@ -6,7 +6,7 @@ use Rattle.std.proofs.lemmas.List.Sorted.{sum_by-IsPermutation, length_permutati
 use Rattle.std.proofs.lemmas.Bool.{both_ways, cases_Bool, cases_lt, not-true, not-false}
 use Rattle.tree.specs.declared.node.Node.{Node}
 use Rattle.tree.specs.Rules.{node_at}
-use Rattle.tree.specs.Balance.{hit, tree_parent, children, with_parent, Fits, Loose, Waits, Balanced, owed}
+use Rattle.tree.specs.Balance.{hit, tree_parent, children, with_parent, Loose, Balanced, owed}
 use Rattle.tree.specs.Family.{outside_parent, child_engaged, in_table, child_counts, child_exists, no_hits, none_with_parent}
 
 module _ (nodes root : ℕ) (announced : Bool) (rs : List Node) (marks items : List ℕ) (b : Loose nodes root announced rs marks items) where

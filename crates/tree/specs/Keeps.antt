@@ -1,16 +1,16 @@
 -- Each call of the tree keeps the balance, over tables.
-use Rattle.std.specs.Prelude.{◌≡◌, ℕ, ◌+◌, ◌<◌, ◌≤◌, Bool, true, false, cond, not, ◌&&◌, ◌≢◌, List, [], ◌∷◌, length, set, replicate, Some, None, Option, ◌==◌, nat_eq, slice_set, refl}
+use Rattle.std.specs.Prelude.{◌≡◌, ℕ, ◌+◌, ◌<◌, Bool, true, false, cond, not, ◌≢◌, List, [], ◌∷◌, length, set, replicate, Some, None, Option, ◌==◌, nat_eq, slice_set, refl}
 use Rattle.std.proofs.Common.{sym, ap, subst, ◌∙◌, inl, inr, arith}
 use Rattle.std.proofs.lemmas.List.{set-get_or, set-set, get_or-set_same, get_or-set_other, length-set, length-replicate, get_or-replicate, get_or_past}
 use Rattle.std.proofs.lemmas.Bool.{both_ways, true≢false, cond-true, cond-false, eq-eqb, ne_eqb, eqb-true, eqb-false, cases_lt, cases_eq, and_parts, and_from, not-true, not_from_false}
 use Rattle.detector.specs.Laws.{with_answer, answered}
 use Rattle.tree.specs.declared.node.Node.{Node}
 use Rattle.tree.specs.declared.node.Outcome.{Outcome}
-use Rattle.tree.specs.declared.node.Outcome.TheVariants.{Nothing, Signal, Left}
+use Rattle.tree.specs.declared.node.Outcome.TheVariants.{Nothing, Left}
 use Rattle.tree.specs.Rules.{blank, first, node_at, raised, lowered, resting, woken, joining, left, done, settled, leaving}
 use Rattle.tree.specs.Steps.{signal_of, announced_by}
-use Rattle.tree.specs.Balance.{hit, hits, tree_parent, parent_hit, child, children, some_hit, has_parent, with_parent, Fits, Loose, Waits, Balanced, owed}
-use Rattle.tree.specs.Tables.{each_set, hit_same, hit_other, hits_cons, children_set, with_parent_set, deficits_set}
+use Rattle.tree.specs.Balance.{hit, hits, tree_parent, parent_hit, child, some_hit, has_parent, Fits, Loose, Waits, Balanced, owed}
+use Rattle.tree.specs.Tables.{each_set, hit_same, hit_other, hits_cons, with_parent_set, deficits_set}
 use Rattle.tree.specs.Family.{some≢none, outside_parent, child_counts, no_children, none_with_parent}
 use Rattle.tree.specs.Endings.{too_soon_never}
 

@@ -1,8 +1,8 @@
 -- The tree keeps the laws of a detector.
-use Rattle.std.specs.Prelude.{◌≡◌, ℕ, ◌+◌, ◌<◌, Bool, true, false, cond, not, ◌&&◌, ◌≢◌, List, [], ◌∷◌, length, replicate, Some, None, Option, ◌==◌, nat_lt, slice_set, refl}
+use Rattle.std.specs.Prelude.{◌≡◌, ℕ, ◌+◌, ◌<◌, Bool, true, false, cond, ◌&&◌, List, [], ◌∷◌, length, replicate, Some, None, Option, ◌==◌, nat_lt, slice_set, refl}
 use Rattle.std.proofs.Common.{sym, ap, subst, ◌∙◌, inl, inr, arith}
 use Rattle.std.proofs.lemmas.List.{get_or-set_same, get_or-set_other}
-use Rattle.std.proofs.lemmas.Bool.{both_ways, cond_both, lt-ltb, le-ltb, and_from, and_parts, not-true, cases_lt, cases_Bool}
+use Rattle.std.proofs.lemmas.Bool.{both_ways, cond_both, lt-ltb, le-ltb, and_from, and_parts, cases_lt, cases_Bool}
 use Rattle.fault.specs.Checks.{Passes}
 use Rattle.detector.specs.Calls.{open_checks, sent_checks, received_checks, idled_checks, control_checks}
 use Rattle.detector.specs.Laws.{AllPassive, Fresh, Same, Turned, StillBalanced, Sending, Receiving, Idling, Controlling, Over, Lawful}
@@ -10,13 +10,13 @@ use Rattle.tree.specs.declared.node.Node.{Node}
 use Rattle.tree.specs.declared.node.Event.TheVariants.{Received, Idled, Control}
 use Rattle.tree.specs.declared.node.Outcome.TheVariants.{Nothing, Signal}
 use Rattle.tree.specs.declared.engagement.Tree.{Tree}
-use Rattle.tree.specs.Rules.{blank, first, node_at, raised, lowered, resting, woken, joining, left, done, settled, leaving}
+use Rattle.tree.specs.Rules.{blank, first, node_at, raised, lowered, resting, woken, joining, left, done}
 use Rattle.tree.specs.Steps.{at, HasDeficit, Becomes, Opened, Sent, signal_of, announced_by, Happens}
 use Rattle.tree.specs.Balance.{hits, has_parent, some_hit, Balanced, owed, tree_meaning}
 use Rattle.tree.specs.Tables.{each_set, with_parent_set, hits_cons, hit_same}
 use Rattle.tree.specs.Family.{outside_parent}
 use Rattle.tree.specs.Endings.{deficit_engaged, too_soon_never, missed_never, any_order}
-use Rattle.tree.specs.Keeps.{by_bool, Lands, sent_keeps, woken_keeps, joining_keeps, Leaves, idled_keeps, control_keeps, blank_at, opened_balance, opened_owes}
+use Rattle.tree.specs.Keeps.{by_bool, Lands, sent_keeps, woken_keeps, joining_keeps, idled_keeps, control_keeps, blank_at, opened_balance, opened_owes}
 
 -- What holds of a changed table holds of the tree that has it.
 becomes : (P : ℕ → ℕ → Bool → List Node → Type 0) (t u : Tree) (i : ℕ) (r : Node) (a : Bool) → Becomes t u i r a → P t.nodes t.root a (slice_set t.table.records i r) → P u.nodes u.root u.announced u.table.records

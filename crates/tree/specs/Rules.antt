@@ -1,5 +1,5 @@
 -- What happens to one node's record, by its state and the event together.
-use Rattle.std.specs.Prelude.{◌≡◌, ℕ, ◌+◌, ◌-◌, Bool, true, false, cond, not, ◌&&◌, List, Some, None, Option, ◌==◌, slice_index_or}
+use Rattle.std.specs.Prelude.{ℕ, ◌+◌, ◌-◌, Bool, true, false, cond, not, ◌&&◌, List, Some, None, ◌==◌, slice_index_or}
 use Rattle.tree.specs.declared.node.Node.{Node}
 use Rattle.tree.specs.declared.node.Event.{Event}
 use Rattle.tree.specs.declared.node.Event.TheVariants.{Received, Idled, Control}

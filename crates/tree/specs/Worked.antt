@@ -1,7 +1,7 @@
 -- Worked cases at the limit of a node's deficit, for any tree.
 use Rattle.std.specs.Prelude.{◌≡◌, ℕ, ◌<◌, true}
 use Rattle.fault.specs.Checks.{Passes, Fails}
-use Rattle.detector.specs.declared.fault.DetectorFault.TheVariants.{Spent}
+use Rattle.detector.specs.declared.faults.DetectorFault.TheVariants.{Spent}
 use Rattle.detector.specs.Calls.{sent_checks}
 use Rattle.tree.specs.declared.engagement.Tree.{Tree}
 use Rattle.tree.specs.Steps.{at}

@@ -8,7 +8,7 @@ ghost use Rattle.tree.specs.Rightness;
 use crate::engagement::{Table, Tree};
 use crate::node::{Event, Node, Outcome};
 use detector::detector::Detector;
-use detector::fault::DetectorFault;
+use detector::faults::DetectorFault;
 use detector::size::check_size;
 
 /// The deficit of a node that can send no more.

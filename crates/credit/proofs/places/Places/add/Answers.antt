@@ -14,8 +14,8 @@ past c = carried_past c.args.self.now.taken c.args.e c.loop-self.p c.loop-self.s
 pub loop-self-init : goal.loop-self-init
 loop-self-init c = carried_none c.args.self.now.taken c.args.e
 
-pub overflow-sub-p : goal.overflow-sub-p
-overflow-sub-p c = past c
+pub overflow_sub-p : goal.overflow_sub-p
+overflow_sub-p c = past c
 
 pub loop-self-smaller : goal.loop-self-smaller
 loop-self-smaller c = omega (arith, past c)

@@ -1,6 +1,7 @@
 use Rattle.std.proofs.Common.{false, get_or, refl, inl, inr, arith}
 use Rattle.std.proofs.lemmas.Bool.{cases_Bool}
-use Rattle.credit.specs.ValuesLemmas.{whole_taken, whole_free, whole_alone}
+use Rattle.credit.specs.ValuesLemmas.{whole_taken, whole_free}
+use Rattle.credit.proofs.Values.{whole_alone}
 use Rattle.credit.proofs.recovery.CreditDetector.has_announced.Goals as goal
 
 pub returns : goal.returns

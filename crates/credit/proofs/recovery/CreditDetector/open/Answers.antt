@@ -5,7 +5,7 @@ use Rattle.credit.proofs.recovery.CreditDetector.open.Goals as goal
 
 pub returns : goal.returns
 returns c = (
-  c.in-ok-check-size.ensures,
+  c.in_ok-check_size.ensures,
   record {
     size = refl;
     records = c.hold.ensures ∙ ap (λ rs. set rs c.args.root (holding (Some 0))) c.none-holders.ensures;
