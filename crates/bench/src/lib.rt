@@ -6,7 +6,7 @@ ghost use Rattle.bench.specs.Counted.{Counts};
 use session::session::Room;
 use std::alloc::Global;
 
-pub mod channel;
+pub mod channels;
 
 /// Reads a session file, and answers how many links and steps it has together; 0 where it was not accepted.
 #[unsafe(no_mangle)]

@@ -1,6 +1,6 @@
 -- A row filled from the fields of a line, one column after another.
 use Rattle.std.proofs.Common.{◌≡◌, ℕ, zero, suc, ◌+◌, ◌<◌, ◌≤◌, List, [], ◌∷◌, length, get_or, drop, set, sym, ap, ◌∙◌, subst, inl, inr, ⊎_elim, add-zero, arith}
-use Rattle.std.specs.List.{AllByRecursion as All}
+use Rattle.std.specs.List.{AllByRecursion}
 use Rattle.std.proofs.ByRecursion.{All-get_or, All-drop}
 use Rattle.std.proofs.lemmas.List.{length-map, length-set, get_or-map, get_or-set_same, get_or-set_other, same_lists, get_or_default, drop_more}
 use Rattle.std.proofs.lemmas.Bool.{cases_lt}
@@ -17,7 +17,7 @@ use Rattle.format.proofs.Orders.{each}
 pub next_field : (line : List ℕ) (fs : List (List ℕ)) (i : ℕ) (rest front after : List ℕ) → Fields line fs → i < length fs → rest ≡ spaced (drop i fs) → Parted rest front after → (front ≡ get_or fs i []) × (after ≡ spaced (drop (i + 1) fs))
 next_field line fs i rest front after w l e p =
     let s = drop_more fs i [] l in
-    first_of (get_or fs i []) (drop (i + 1) fs) front after (subst (All Field) s (All-drop Field i fs w.each)) (subst (λ t. Parted t front after) (e ∙ ap spaced s) p)
+    first_of (get_or fs i []) (drop (i + 1) fs) front after (subst (AllByRecursion Field) s (All-drop Field i fs w.each)) (subst (λ t. Parted t front after) (e ∙ ap spaced s) p)
 
 module _ (takes : ℕ → List ℕ → Type 0) (line : List ℕ) (fs : List (List ℕ)) (w : Fields line fs) where
   -- a field is taken by its column where some cut of the line says so, since there is one cut

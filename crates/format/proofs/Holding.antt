@@ -1,6 +1,6 @@
 -- A row that keeps its ranges passes the checks of its fields; and what a line begins with.
 use Rattle.std.proofs.Common.{◌≡◌, ℕ, zero, suc, ◌+◌, ◌^◌, ◌<◌, ◌≤◌, true, false, ◌&&◌, leb, List, [], ◌∷◌, ◌++◌, length, get_or, decimal, sym, refl, ◌∙◌, subst, arith}
-use Rattle.std.specs.List.{AllByRecursion as All}
+use Rattle.std.specs.List.{AllByRecursion}
 use Rattle.std.proofs.lemmas.Fmt.{digits_decimal, decimal_nonempty}
 use Rattle.std.proofs.ByRecursion.{All-get_or}
 use Rattle.std.proofs.lemmas.List.{get_or-map}
@@ -23,7 +23,7 @@ use Rattle.format.proofs.Fills.{fields_pass}
 use Rattle.format.proofs.Orders.{cut_of}
 
 -- Each column of a row holds what it takes, so each field of its line does.
-pub row_passes : (takes : ℕ → List ℕ → Type 0) (o : List ℕ) (xs : List (List ℕ)) (line : List ℕ) → Order (length xs) o → 0 < length xs → All Field xs → ((k : ℕ) → k < length xs → takes k (get_or xs k [])) → line ≡ spaced (arranged o xs) → Passes (field_checks takes line 0 o)
+pub row_passes : (takes : ℕ → List ℕ → Type 0) (o : List ℕ) (xs : List (List ℕ)) (line : List ℕ) → Order (length xs) o → 0 < length xs → AllByRecursion Field xs → ((k : ℕ) → k < length xs → takes k (get_or xs k [])) → line ≡ spaced (arranged o xs) → Passes (field_checks takes line 0 o)
 row_passes takes o xs line q some w holds e =
     let c = cut_of o xs line q some w e in
     fields_pass takes line (arranged o xs) c.0 o 0 (λ j l.

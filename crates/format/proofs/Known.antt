@@ -1,6 +1,6 @@
 -- The words of the format: each is a field, and those of one list are apart.
 use Rattle.std.proofs.Common.{◌≡◌, ℕ, zero, suc, ◌^◌, ◌<◌, ◌≤◌, Bool, true, not, ◌&&◌, ltb, leb, List, [], ◌∷◌, length, get_or, decimal, sym, refl, ap, arith}
-use Rattle.std.specs.List.{AllByRecursion as All}
+use Rattle.std.specs.List.{AllByRecursion}
 use Rattle.std.specs.Str.{bytes_eq}
 use Rattle.std.proofs.lemmas.Fmt.{digits_decimal, decimal_nonempty}
 use Rattle.std.proofs.ByRecursion.{All-from_get_or}
@@ -33,7 +33,7 @@ abbrev marked : List ℕ → Bool
 marked [] = true
 marked (b ∷ t) = (leb 33 b && leb b 126) && marked t
 
-marks : (t : List ℕ) → marked t ≡ true → All Mark t
+marks : (t : List ℕ) → marked t ≡ true → AllByRecursion Mark t
 marks [] h = tt
 marks (b ∷ t) h =
     let p = and_parts (leb 33 b && leb b 126) (marked t) h in
@@ -45,7 +45,7 @@ abbrev fielded : List (List ℕ) → Bool
 fielded [] = true
 fielded (t ∷ ts) = (ltb 0 (length t) && marked t) && fielded ts
 
-fields : (ts : List (List ℕ)) → fielded ts ≡ true → All Field ts
+fields : (ts : List (List ℕ)) → fielded ts ≡ true → AllByRecursion Field ts
 fields [] h = tt
 fields (t ∷ ts) h =
     let p = and_parts (ltb 0 (length t) && marked t) (fielded ts) h in
@@ -70,7 +70,7 @@ action_field Deliver = (fields (action_word Deliver ∷ []) refl).0
 action_field Work = (fields (action_word Work ∷ []) refl).0
 action_field Control = (fields (action_word Control ∷ []) refl).0
 
-pub names_fields : (t : Table) → All Field (names t)
+pub names_fields : (t : Table) → AllByRecursion Field (names t)
 names_fields Settings = fields (names Settings) refl
 names_fields Links = fields (names Links) refl
 names_fields Steps = fields (names Steps) refl
@@ -111,11 +111,11 @@ pub decimal_field : (n : ℕ) → n < 2 ^ 64 → Field (decimal n)
 decimal_field n h = (decimal_nonempty n h, All-from_get_or Mark (decimal n) 0 (λ i l. let d = digit_at (decimal n) i (digits_decimal own n h) l in (omega arith, omega arith)))
 
 -- the columns of the rows are fields
-pub setting_fields : (h : Setting) → SettingInRange h → All Field (setting_values h)
+pub setting_fields : (h : Setting) → SettingInRange h → AllByRecursion Field (setting_values h)
 setting_fields h r = (decimal_field h.nodes (omega (arith, r.few)), (decimal_field h.root (omega (arith, r.small)), (kind_field h.kind, (detector_field h.detector, (channel_field h.channel, tt)))))
 
-pub link_fields : (nodes : ℕ) (l : Link) → nodes ≤ 64 → InRange nodes l → All Field (link_values l)
+pub link_fields : (nodes : ℕ) (l : Link) → nodes ≤ 64 → InRange nodes l → AllByRecursion Field (link_values l)
 link_fields nodes l few r = (decimal_field l.from (omega (arith, r.0.0)), (decimal_field l.to (omega (arith, r.0.1)), (decimal_field l.cost (omega (arith, r.1)), (decimal_field l.width (omega (arith, r.2.1)), tt))))
 
-pub step_fields : (s : Step) → s.pick ≤ 65535 → All Field (step_values s)
+pub step_fields : (s : Step) → s.pick ≤ 65535 → AllByRecursion Field (step_values s)
 step_fields s h = (action_field s.action, (decimal_field s.pick (omega arith), tt))

@@ -3,7 +3,7 @@ use Rattle.std.proofs.Common.{◌≡◌, ℕ, zero, suc, ◌+◌, ◌<◌, ◌�
 use mathlib.Core.List.Memᴰ
 use mathlib.Core.List.{Memᴰ}
 use native.Mathlib.Decide.{ℕ_discrete}
-use Rattle.std.specs.List.{ContainsAt as Has, AllByRecursion as All}
+use Rattle.std.specs.List.{ContainsAt as Has, AllByRecursion}
 use Rattle.std.proofs.ByRecursion.{All-push, All-get_or, has_get_or}
 use Rattle.std.proofs.lemmas.List.{length_push, map_push, get_or-map, length-map, take_more, get_or_push, get_or_append_left, take_all, length-take-le, get_or-take}
 use Rattle.std.proofs.lemmas.Bool.{cases_lt, ne_eqb, eq-eqb}
@@ -59,7 +59,7 @@ each n o q k l = elim (mem_or k o) [
 -- the first i fields of fs are the words of the columns o
 pub record Sofar (ws fs : List (List ℕ)) (i : ℕ) (o : List ℕ) : Type 0 where
   pub is : arranged o ws ≡ take i fs
-  pub below : All (λ k. k < length ws) o
+  pub below : AllByRecursion (λ k. k < length ws) o
   pub once : Once o
 
 pub start : (ws fs : List (List ℕ)) → Sofar ws fs 0 []
@@ -118,11 +118,11 @@ done ws fs i o long past s =
     (record { long = sym (length-map o (λ k. get_or ws k [])) ∙ ap length all ∙ long; below = s.below; once = s.once }, sym all)
 
 -- fields in an order of columns are fields
-pub arranged_fields : (o : List ℕ) (xs : List (List ℕ)) → All (λ k. k < length xs) o → All Field xs → All Field (arranged o xs)
+pub arranged_fields : (o : List ℕ) (xs : List (List ℕ)) → AllByRecursion (λ k. k < length xs) o → AllByRecursion Field xs → AllByRecursion Field (arranged o xs)
 arranged_fields [] xs b w = tt
 arranged_fields (k ∷ o) xs b w = (All-get_or Field xs k [] b.0 w, arranged_fields o xs b.1 w)
 
-pub cut_of : (o : List ℕ) (xs : List (List ℕ)) (line : List ℕ) → Order (length xs) o → 0 < length xs → All Field xs → line ≡ spaced (arranged o xs) → Cut (length xs) line (arranged o xs)
+pub cut_of : (o : List ℕ) (xs : List (List ℕ)) (line : List ℕ) → Order (length xs) o → 0 < length xs → AllByRecursion Field xs → line ≡ spaced (arranged o xs) → Cut (length xs) line (arranged o xs)
 cut_of o xs line q some w e =
     let n : length (arranged o xs) ≡ length xs = length-map o (λ k. get_or xs k []) ∙ q.long in
     (record { is = e; each = arranged_fields o xs q.below w; some = omega arith }, n)

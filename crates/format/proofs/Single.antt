@@ -4,7 +4,7 @@
 -- file go through the same places as far as both go; where one of them stops, the other stops too or goes on, and a
 -- line that goes on can't be the reason to stop.
 use Rattle.std.proofs.Common.{◌≡◌, ℕ, ◌+◌, ◌<◌, ◌≤◌, true, false, ◌⊎◌, List, [], ◌∷◌, ◌++◌, map, length, get_or, sym, refl, ap, ◌∙◌, subst, inl, inr, append_assoc, append-nil, arith}
-use Rattle.std.specs.List.{flat_map, AllByRecursion as All}
+use Rattle.std.specs.List.{flat_map, AllByRecursion}
 use Rattle.std.proofs.ByRecursion.{All-get_or}
 use Rattle.std.proofs.lemmas.List.{length-append, get_or_at, get_or_append_left, ext_get_or, get_or-map}
 use Rattle.std.proofs.lemmas.Bool.{true≢false}
@@ -172,7 +172,7 @@ module _ (o : List ℕ) (h : Setting) (p : List ℕ) (q : Order 4 p) (few : h.no
         ap (λ t. line ++ 10 ∷ t) r.2 ∙ sym (append_assoc line (10 ∷ []) (flat_map (row p) (map link_values ms))),
       )
 
-  step_hops : (ls : List Link) (r : List ℕ) (ss ts : List Step) → Order 2 r → All (λ s. s.pick ≤ 65535) ts → (xs : List Hop) × Leads (at_steps o h p ls r ss) xs (at_steps o h p ls r (ss ++ ts)) × (hops_text xs ≡ flat_map (row r) (map step_values ts))
+  step_hops : (ls : List Link) (r : List ℕ) (ss ts : List Step) → Order 2 r → AllByRecursion (λ s. s.pick ≤ 65535) ts → (xs : List Hop) × Leads (at_steps o h p ls r ss) xs (at_steps o h p ls r (ss ++ ts)) × (hops_text xs ≡ flat_map (row r) (map step_values ts))
   step_hops ls r ss [] d k = ([], ap (at_steps o h p ls r) (append-nil ss), refl)
   step_hops ls r ss (t ∷ ts) d k =
       let line = spaced (arranged r (step_values t)) in

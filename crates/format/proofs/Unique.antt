@@ -1,6 +1,6 @@
 -- A line writes one row.
 use Rattle.std.proofs.Common.{◌≡◌, ℕ, ◌<◌, ◌≤◌, List, [], length, get_or, sym, refl, ap, ◌∙◌, subst, arith}
-use Rattle.std.specs.List.{AllByRecursion as All}
+use Rattle.std.specs.List.{AllByRecursion}
 use Rattle.std.proofs.lemmas.Fmt.{decimal_injective}
 use Rattle.text.specs.Lines.{Field, spaced}
 use Rattle.text.proofs.Cuts.{fields_same}
@@ -62,7 +62,7 @@ action_same Control Control e = refl
 
 -- Two rows that are written as one line, with the columns in one order, have the same text in each column: the line
 -- has one cut into fields, and each column stands at one place of it.
-pub columns_same : (o : List ℕ) (line : List ℕ) (xs ys : List (List ℕ)) → Order (length xs) o → length xs ≡ length ys → 0 < length xs → All Field xs → All Field ys → line ≡ spaced (arranged o xs) → line ≡ spaced (arranged o ys) → (k : ℕ) → k < length xs → get_or xs k [] ≡ get_or ys k []
+pub columns_same : (o : List ℕ) (line : List ℕ) (xs ys : List (List ℕ)) → Order (length xs) o → length xs ≡ length ys → 0 < length xs → AllByRecursion Field xs → AllByRecursion Field ys → line ≡ spaced (arranged o xs) → line ≡ spaced (arranged o ys) → (k : ℕ) → k < length xs → get_or xs k [] ≡ get_or ys k []
 columns_same o line xs ys q n some v w e f k l =
     let a = cut_of o xs line q some v e in
     let b = cut_of o ys line (subst (λ m. Order m o) n q) (subst (λ m. 0 < m) n some) w f in

@@ -1,7 +1,7 @@
 -- One line more: from a place to the next, or a refusal there.
 use Rattle.std.proofs.Common.{◌≡◌, ℕ, ◌+◌, ◌<◌, ◌≤◌, true, false, cond, ◌⊎◌, List, [], ◌∷◌, ◌++◌, map, length, Err, sym, refl, ap, ◌∙◌, subst, inl, inr, append_assoc, append-nil, arith}
 use native.Mathlib.Decide.{ℕ_discrete}
-use Rattle.std.specs.List.{flat_map, AllByRecursion as All}
+use Rattle.std.specs.List.{flat_map, AllByRecursion}
 use Rattle.std.proofs.ByRecursion.{All-push, All-append, All-weaker}
 use Rattle.std.proofs.lemmas.List.{length-append, length_push, map_push, flat_map_more}
 use Rattle.fault.specs.Checks.{Fails}
@@ -23,10 +23,10 @@ use Rattle.format.specs.Content.{SettingKept, setting_text, links_text, steps_te
 use Rattle.format.specs.Stages.{NextLine}
 use Rattle.format.specs.Verdict.{Place, at_setting_names, at_setting, at_link_names, at_links, at_steps, UpTo, Refuses, MayEnd, line_number, line_checks, digit_first, names_checks, link_line_checks, LinkLine}
 
-marks_unbroken : (f : List ℕ) → All Mark f → Unbroken f
+marks_unbroken : (f : List ℕ) → AllByRecursion Mark f → Unbroken f
 marks_unbroken f w = All-weaker Mark (λ b. b ≡ 10 → ⊥) (λ b m e. omega (arith, m.0, e)) f w
 
-spaced_unbroken : (fs : List (List ℕ)) → All Field fs → Unbroken (spaced fs)
+spaced_unbroken : (fs : List (List ℕ)) → AllByRecursion Field fs → Unbroken (spaced fs)
 spaced_unbroken [] w = tt
 spaced_unbroken (f ∷ []) w = marks_unbroken f w.0.1
 spaced_unbroken (f ∷ g ∷ fs) w = All-append (λ b. b ≡ 10 → ⊥) f (32 ∷ spaced (g ∷ fs)) (marks_unbroken f w.0.1) (λ e. omega arith, spaced_unbroken (g ∷ fs) w.1)

@@ -1,13 +1,13 @@
 -- Tables whose columns stand in an order of the writer's own.
 use Rattle.std.specs.Prelude.{◌≡◌, ℕ, ◌<◌, List, [], ◌∷◌, ◌++◌, map, length, get_or, ◌≢◌, slice_index, slice_index_or}
 use Rattle.std.specs.Borrow.{Bor}
-use Rattle.std.specs.List.{flat_map, AllByRecursion as All}
+use Rattle.std.specs.List.{flat_map, AllByRecursion}
 use Rattle.text.specs.Lines.{spaced, Fields}
 
 -- an order of n columns: each of them once
 pub record Order (n : ℕ) (o : List ℕ) : Type 0 where
   pub long : length o ≡ n
-  pub below : All (λ k. k < n) o
+  pub below : AllByRecursion (λ k. k < n) o
   pub once : (i j : ℕ) → i < j → j < length o → slice_index o i ≢ slice_index o j
 
 -- what stands in the columns, in this order

@@ -1,6 +1,6 @@
 -- What a session file holds, its text, and the rules.
 use Rattle.std.specs.Prelude.{ℕ, ◌<◌, ◌≤◌, List, [], ◌∷◌, ◌++◌, map, length}
-use Rattle.std.specs.List.{AllByRecursion as All}
+use Rattle.std.specs.List.{AllByRecursion}
 use Rattle.mesh.specs.declared.link.Link.{Link}
 use Rattle.mesh.specs.Rules.{InRange, EndsDiffer, PairsOnce}
 use Rattle.vocab.specs.declared.kinds.Table.TheVariants.{Settings, Links, Steps}
@@ -47,12 +47,12 @@ pub record SettingKept (h : Setting) : Type 0 where
 -- the rules of the links of a mesh of that many nodes
 pub record LinksKept (nodes : ℕ) (ls : List Link) : Type 0 where
   pub few : length ls ≤ 512
-  pub each : All (λ l. InRange nodes l × EndsDiffer l) ls
+  pub each : AllByRecursion (λ l. InRange nodes l × EndsDiffer l) ls
   pub once : PairsOnce ls
 
 -- the rules of the steps
 abbrev pub StepsKept : List Step → Type 0
-StepsKept ss = All (λ s. s.pick ≤ 65535) ss
+StepsKept ss = AllByRecursion (λ s. s.pick ≤ 65535) ss
 
 pub record Kept (c : Content) : Type 0 where
   pub setting : SettingKept c.setting

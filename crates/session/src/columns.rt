@@ -1,7 +1,7 @@
 //! Lines whose columns stand in an order of the writer's own.
 ghost use Rattle.std.specs.Prelude.{◌≡◌, ℕ, ◌<◌, ◌≤◌, List, length, vec_capacity, MatchResult};
 ghost use Rattle.fault.specs.Checks.{Fails};
-ghost use Rattle.std.specs.List.{AllByRecursion as All};
+ghost use Rattle.std.specs.List.{AllByRecursion};
 ghost use Rattle.text.specs.Lines.{Cut, Field, spaced};
 ghost use Rattle.vocab.specs.declared.faults.LineFault.TheVariants.{Layout, WrongNames};
 ghost use Rattle.format.specs.Columns.{Order, arranged, texts};
@@ -30,7 +30,7 @@ pub fn has_fields(count: usize, line: &[u8], n: usize) -> Result<(), LineFault>
 // The order in which the words stand in a line of as many fields.
 fn order_of(words: &[&[u8]], line: &[u8], order: &mut Vec<usize>) -> Result<(), LineFault>
     requires apart { Apart (texts words.now) }
-    requires fields { All Field (texts words.now) }
+    requires fields { AllByRecursion Field (texts words.now) }
     requires some { 0 < length words.now }
     requires room { length words.now ≤ vec_capacity order.old }
     requires cut { (fs : List (List ℕ)) × Cut (length words.now) line.now fs }

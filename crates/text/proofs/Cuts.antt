@@ -1,12 +1,12 @@
 -- A line and its fields.
 use Rattle.std.proofs.Common.{◌≡◌, ℕ, ◌+◌, ◌-◌, ◌<◌, ◌≤◌, ◌⊎◌, List, [], ◌∷◌, ◌++◌, length, get_or, take, drop, sym, refl, ap, ◌∙◌, subst, inl, inr, append_assoc, append-nil, add-zero, arith}
-use Rattle.std.specs.List.{AllByRecursion as All}
+use Rattle.std.specs.List.{AllByRecursion}
 use Rattle.std.proofs.ByRecursion.{All-push}
 use Rattle.std.proofs.lemmas.List.{length_push, length-append, length-take-le, take-append-drop, take_all, take_at, drop-drop, get_or-drop, length-drop, drop_more, take_rest, nil_from_length}
 use Rattle.text.specs.Lines.{Mark, Field, Fields, Parted, spaced}
 
 -- Two lists that agree, each cut at the first element that does not pass P, have the same cut.
-pub same_cut : (P : ℕ → Type 0) (f g : List ℕ) (x y : ℕ) (xs ys : List ℕ) → All P f → All P g → (P x → ⊥) → (P y → ⊥) → f ++ (x ∷ xs) ≡ g ++ (y ∷ ys) → (f ≡ g) × (x ≡ y) × (xs ≡ ys)
+pub same_cut : (P : ℕ → Type 0) (f g : List ℕ) (x y : ℕ) (xs ys : List ℕ) → AllByRecursion P f → AllByRecursion P g → (P x → ⊥) → (P y → ⊥) → f ++ (x ∷ xs) ≡ g ++ (y ∷ ys) → (f ≡ g) × (x ≡ y) × (xs ≡ ys)
 same_cut P [] [] x y xs ys a b p q e = (refl, cc, cc)
 same_cut P [] (c ∷ g) x y xs ys a b p q e = let k : c ≡ x = cc in absurd (p (subst P k b.0))
 same_cut P (c ∷ f) [] x y xs ys a b p q e = let k : c ≡ y = cc in absurd (q (subst P k a.0))
@@ -18,7 +18,7 @@ same_cut P (c ∷ f) (d ∷ g) x y xs ys a b p q e =
     (cc, r.1, r.2)
 
 -- A list that passes P throughout has no element that does not.
-pub no_stop : (P : ℕ → Type 0) (f g : List ℕ) (x : ℕ) (xs : List ℕ) → All P g → (P x → ⊥) → f ++ (x ∷ xs) ≡ g → ⊥
+pub no_stop : (P : ℕ → Type 0) (f g : List ℕ) (x : ℕ) (xs : List ℕ) → AllByRecursion P g → (P x → ⊥) → f ++ (x ∷ xs) ≡ g → ⊥
 no_stop P [] [] x xs b p e = let z : ◌≡◌ {A = ℕ} 0 1 = cc in omega arith
 no_stop P [] (c ∷ g) x xs b p e = let k : c ≡ x = cc in p (subst P k b.0)
 no_stop P (d ∷ f) [] x xs b p e = let z : ◌≡◌ {A = ℕ} 0 1 = cc in omega arith
@@ -39,7 +39,7 @@ Lined text = (line : List ℕ) × (after : List ℕ) × (fs : List (List ℕ)) �
 -- fs came, each with a space, and rest is left; if the text begins with a line of fields, so does the rest
 pub record Sofar (text : List ℕ) (fs : List (List ℕ)) (rest : List ℕ) : Type 0 where
   pub is : text ≡ led fs ++ rest
-  pub each : All Field fs
+  pub each : AllByRecursion Field fs
   pub left : Lined text → Lined rest
 
 no_feed : Mark 10 → ⊥
@@ -47,7 +47,7 @@ no_feed m = omega (arith, m.0)
 
 -- Where the text begins with a line of fields, what stops its first field is a line feed or a space, and after a space
 -- the line goes on with fields.
-stops : (rest f : List ℕ) (b : ℕ) (more : List ℕ) → rest ≡ f ++ (b ∷ more) → All Mark f → (Mark b → ⊥) → Lined rest → (b ≡ 10) ⊎ ((b ≡ 32) × Lined more)
+stops : (rest f : List ℕ) (b : ℕ) (more : List ℕ) → rest ≡ f ++ (b ∷ more) → AllByRecursion Mark f → (Mark b → ⊥) → Lined rest → (b ≡ 10) ⊎ ((b ≡ 32) × Lined more)
 stops rest f b more e m p (line, after, [], is, w) = absurd (omega (arith, w.some))
 stops rest f b more e m p (line, after, g ∷ [], is, w) =
     inl (same_cut Mark f g b 10 more after m w.each.0.1 p no_feed (sym e ∙ is ∙ ap (λ t. t ++ 10 ∷ after) w.is)).1
@@ -72,10 +72,10 @@ begins rest (line, after, g ∷ h ∷ gs, is, w) =
 pub no_line : (rest : List ℕ) → (0 < length rest → Mark (get_or rest 0 0) → ⊥) → Lined rest → ⊥
 no_line rest p l = let b = begins rest l in p b.0 b.1
 
-pub endless : (rest : List ℕ) → All Mark rest → Lined rest → ⊥
+pub endless : (rest : List ℕ) → AllByRecursion Mark rest → Lined rest → ⊥
 endless rest m (line, after, fs, is, w) = no_stop Mark line rest 10 after m no_feed (sym is)
 
-pub other_stop : (rest f : List ℕ) (b : ℕ) (more : List ℕ) → rest ≡ f ++ (b ∷ more) → All Mark f → (Mark b → ⊥) → (b ≡ 10 → ⊥) → (b ≡ 32 → ⊥) → Lined rest → ⊥
+pub other_stop : (rest f : List ℕ) (b : ℕ) (more : List ℕ) → rest ≡ f ++ (b ∷ more) → AllByRecursion Mark f → (Mark b → ⊥) → (b ≡ 10 → ⊥) → (b ≡ 32 → ⊥) → Lined rest → ⊥
 other_stop rest f b more e m p q r l = elim (stops rest f b more e m p l) [ inl x ↦ q x | inr x ↦ r x.0 ]
 
 spaced_led : (fs : List (List ℕ)) (f : List ℕ) → led fs ++ f ≡ spaced (fs ++ f ∷ [])
@@ -109,14 +109,14 @@ done text fs rest f after s w e = (
 -- what `span` and `split_at` found: the first n bytes of rest, which a field may hold, and what follows
 pub record Span (rest f after : List ℕ) (n : ℕ) : Type 0 where
   pub within : n ≤ length rest
-  pub marks : All Mark (take n rest)
+  pub marks : AllByRecursion Mark (take n rest)
   pub stops : n < length rest → Mark (get_or rest n 0) → ⊥
   pub front : f ≡ take n rest
   pub back : after ≡ drop n rest
 
 module _ (rest f after : List ℕ) (n : ℕ) (s : Span rest f after n) where
-  pub all_marks : All Mark f
-  all_marks = subst (All Mark) (sym s.front) s.marks
+  pub all_marks : AllByRecursion Mark f
+  all_marks = subst (AllByRecursion Mark) (sym s.front) s.marks
 
   pub field_of : (n ≡ 0 → ⊥) → Field f
   field_of some = (omega (arith, ap length s.front, length-take-le n rest s.within, some), all_marks)
@@ -148,7 +148,7 @@ fields_same line (f ∷ e ∷ fs) (g ∷ h ∷ gs) v w =
     let s = r.0 in cc
 
 -- What `first_field` parts off a line of fields is its first field, and the others are left.
-pub first_of : (f : List ℕ) (fs : List (List ℕ)) (front rest : List ℕ) → All Field (f ∷ fs) → Parted (spaced (f ∷ fs)) front rest → (front ≡ f) × (rest ≡ spaced fs)
+pub first_of : (f : List ℕ) (fs : List (List ℕ)) (front rest : List ℕ) → AllByRecursion Field (f ∷ fs) → Parted (spaced (f ∷ fs)) front rest → (front ≡ f) × (rest ≡ spaced fs)
 first_of f [] front rest w (m, inl (e, n)) = (sym e, n)
 first_of f [] front rest w (m, inr (b, p, e)) = absurd (no_stop Mark front f b rest w.0.1 p (sym e))
 first_of f (g ∷ fs) front rest w (m, inl (e, n)) = absurd (no_stop Mark f front 32 (spaced (g ∷ fs)) m no_space e)
@@ -160,7 +160,7 @@ first_of f (g ∷ fs) front rest w (m, inr (b, p, e)) =
 pub record Reach (text : List ℕ) (at n : ℕ) : Type 0 where
   pub inside : at ≤ length text
   pub within : n ≤ length (take (length text - at) (drop at text))
-  pub marks : All Mark (take n (take (length text - at) (drop at text)))
+  pub marks : AllByRecursion Mark (take n (take (length text - at) (drop at text)))
   pub stops : n < length (take (length text - at) (drop at text)) → Mark (get_or (take (length text - at) (drop at text)) n 0) → ⊥
 
 module _ (text : List ℕ) (at n : ℕ) (r : Reach text at n) where
@@ -171,8 +171,8 @@ module _ (text : List ℕ) (at n : ℕ) (r : Reach text at n) where
   abbrev pub found : List ℕ
   found = take n (drop at text)
 
-  pub found_marks : All Mark found
-  found_marks = subst (λ t. All Mark (take n t)) part r.marks
+  pub found_marks : AllByRecursion Mark found
+  found_marks = subst (λ t. AllByRecursion Mark (take n t)) part r.marks
 
   long : at + n ≤ length text
   long = omega (arith, r.within, ap length part, length-drop at text, r.inside)
@@ -188,8 +188,8 @@ module _ (text : List ℕ) (at n : ℕ) (r : Reach text at n) where
       r.stops (subst (λ k. k < length (take (length text - at) (drop at text))) (sym z) (subst (λ t. 0 < length t) (sym part) h))
       (subst (λ k. Mark (get_or (take (length text - at) (drop at text)) k 0)) (sym z) (subst (λ t. Mark (get_or t 0 0)) (sym part) m))
 
-  pub all_found : length text ≤ at + n → All Mark (drop at text)
-  all_found h = subst (All Mark) (take_all n (drop at text) (omega (arith, length-drop at text))) found_marks
+  pub all_found : length text ≤ at + n → AllByRecursion Mark (drop at text)
+  all_found h = subst (AllByRecursion Mark) (take_all n (drop at text) (omega (arith, length-drop at text))) found_marks
 
   -- the byte after the field, and the rest
   pub split : at + n < length text → drop at text ≡ found ++ (get_or text (at + n) 0 ∷ drop ((at + n) + 1) text)

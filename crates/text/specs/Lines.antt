@@ -1,7 +1,7 @@
 -- Lines of fields.
 use Rattle.std.specs.Prelude.{◌≡◌, ℕ, ◌<◌, ◌≤◌, ◌⊎◌, List, [], ◌∷◌, ◌++◌, length, Some, None, Option, ◌≢◌}
 use Rattle.std.specs.Borrow.{Bor}
-use Rattle.std.specs.List.{AllByRecursion as All}
+use Rattle.std.specs.List.{AllByRecursion}
 
 -- a byte that a field may hold
 abbrev pub Mark : ℕ → Type 0
@@ -9,7 +9,7 @@ Mark b = (33 ≤ b) × (b ≤ 126)
 
 -- a field: one or more such bytes
 abbrev pub Field : List ℕ → Type 0
-Field f = (0 < length f) × All Mark f
+Field f = (0 < length f) × AllByRecursion Mark f
 
 -- fields, parted by one space
 abbrev pub spaced : List (List ℕ) → List ℕ
@@ -20,7 +20,7 @@ spaced (f ∷ g ∷ fs) = f ++ 32 ∷ spaced (g ∷ fs)
 -- the line, without its line feed, is made of the fields fs
 pub record Fields (line : List ℕ) (fs : List (List ℕ)) : Type 0 where
   pub is : line ≡ spaced fs
-  pub each : All Field fs
+  pub each : AllByRecursion Field fs
   pub some : 0 < length fs
 
 -- the line has n fields: fs
@@ -30,12 +30,12 @@ Cut n line fs = Fields line fs × (length fs ≡ n)
 -- front is the longest front of a line that a field may hold; one byte parts it from rest, unless it is all
 abbrev pub Parted : List ℕ → List ℕ → List ℕ → Type 0
 Parted line front rest =
-    All Mark front
+    AllByRecursion Mark front
     × (((line ≡ front) × (rest ≡ [])) ⊎ ((b : ℕ) × (Mark b → ⊥) × (line ≡ front ++ b ∷ rest)))
 
 -- no line feed
 abbrev pub Unbroken : List ℕ → Type 0
-Unbroken t = All (λ b. b ≢ 10) t
+Unbroken t = AllByRecursion (λ b. b ≢ 10) t
 
 -- the text begins with a line of fields: n of them, the line and what follows its line feed; none where it does not
 abbrev pub FirstLine : List ℕ → Option (ℕ × Bor (List ℕ) × Bor (List ℕ)) → Type 0

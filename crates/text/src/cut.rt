@@ -1,6 +1,6 @@
 //! A text cut into lines, and a line into fields.
 ghost use Rattle.std.specs.Prelude.{◌≡◌, ◌<◌, ◌≤◌, length, take, slice_index};
-ghost use Rattle.std.specs.List.{AllByRecursion as All};
+ghost use Rattle.std.specs.List.{AllByRecursion};
 ghost use Rattle.text.specs.Lines.{Mark, Parted, FirstLine};
 
 // The least and the greatest byte that a field may hold.
@@ -11,7 +11,7 @@ const LAST_MARK: u8 = 126;
 // How many bytes of a field stand at the front.
 fn span(text: &[u8]) -> usize
     ensures within { result ≤ length text.now }
-    ensures marks { All Mark (take result text.now) }
+    ensures marks { AllByRecursion Mark (take result text.now) }
     ensures stops { result < length text.now → Mark (slice_index text.now result) → ⊥ }
 {
     for (i, b) in text.iter().enumerate() {

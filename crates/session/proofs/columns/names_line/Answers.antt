@@ -1,5 +1,5 @@
 use Rattle.std.proofs.Common.{◌≡◌, length, vec_items, sym, refl, ap, ◌∙◌, subst, inl, arith}
-use Rattle.std.specs.List.{AllByRecursion as All}
+use Rattle.std.specs.List.{AllByRecursion}
 use Rattle.std.proofs.lemmas.List.{length-map}
 use Rattle.std.proofs.lemmas.Result.{err_from_is_err_and}
 use Rattle.text.specs.Lines.{Field, Cut}
@@ -31,7 +31,7 @@ order_of-requires c =
     let t = c.args.table in
     record {
       apart = subst Apart (sym c.titles-words.ensures) (names_apart t);
-      fields = subst (All Field) (sym c.titles-words.ensures) (names_fields t);
+      fields = subst (AllByRecursion Field) (sym c.titles-words.ensures) (names_fields t);
       some = omega (arith, (names_some t).0, m);
       room = omega (arith, (names_some t).1, m);
       cut = c.in_ok-has_fields.ensures;

@@ -1,7 +1,7 @@
 use Rattle.std.proofs.Common.{◌+◌, ◌%◌, ◌^◌, [], ◌∷◌, ◌++◌, sym, ap, ◌∙◌, append_assoc, append-nil}
 use Rattle.bench.specs.Rounds.{numbered}
 use Rattle.bench.proofs.More.{numbered_more}
-use Rattle.bench.proofs.channel.fill.Goals as goal
+use Rattle.bench.proofs.channels.fill.Goals as goal
 
 pub loop-k-init : goal.loop-k-init
 loop-k-init g c = sym (append-nil _)

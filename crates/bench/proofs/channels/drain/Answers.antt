@@ -1,6 +1,6 @@
 use Rattle.std.proofs.Common.{refl}
 use Rattle.bench.proofs.More.{took_more}
-use Rattle.bench.proofs.channel.drain.Goals as goal
+use Rattle.bench.proofs.channels.drain.Goals as goal
 
 pub loop-k-init : goal.loop-k-init
 loop-k-init g c = (refl, refl)

@@ -1,6 +1,6 @@
 use Rattle.std.proofs.Common.{refl}
 use Rattle.bench.proofs.More.{ran_more}
-use Rattle.bench.proofs.channel.run.Goals as goal
+use Rattle.bench.proofs.channels.run.Goals as goal
 
 pub loop-round-init : goal.loop-round-init
 loop-round-init g c = (refl, refl)
