@@ -1,9 +1,8 @@
 -- The laws of paths and best labels, from the four laws of a kind alone.
-use Rattle.std.proofs.Common.{◌≡◌, ℕ, ◌<◌, ◌≤◌, List, [], ◌∷◌, ◌++◌, sym, refl, ap, ◌∙◌, subst, arith}
+use Rattle.std.proofs.Common.{◌≡◌, ℕ, ◌≤◌, List, [], ◌∷◌, ◌++◌, sym, refl, ap, ◌∙◌, arith}
 use native.Mathlib.Decide.{ℕ_discrete}
-use Rattle.mesh.specs.declared.link.Link.{Link}
 use Rattle.label.specs.Kinds.{Kind, Lawful}
-use Rattle.label.specs.Paths.{Graph, Leads, link_at, path_label, Best, NoneStays, OneBest, RootStart, NeverBetter, Goes_on, PathLaws}
+use Rattle.label.specs.Paths.{Graph, Leads, link_at, path_label, NoneStays, OneBest, RootStart, NeverBetter, GoesOn, PathLaws}
 
 module _ {L : Type 0} (κ : Kind L) (w : Lawful κ) where
   -- None's extension is no better than none (law 4) and no worse (law 2), so it has none's rank (law 1).
@@ -16,7 +15,7 @@ module _ {L : Type 0} (κ : Kind L) (w : Lawful κ) where
   never_better g (j ∷ js) ks = omega (arith, never_better g js ks, w.never (path_label κ g (js ++ ks)) (link_at g j))
 
   -- Law 3, link by link.
-  pub goes_on : Goes_on κ
+  pub goes_on : GoesOn κ
   goes_on g [] js ks h = h
   goes_on g (i ∷ is) js ks h = w.keeps (path_label κ g (is ++ js)) (path_label κ g (is ++ ks)) (link_at g i) (goes_on g is js ks h)
 

@@ -2,7 +2,7 @@
 use Rattle.std.specs.Prelude.{◌≡◌, ℕ, ◌<◌, ◌≤◌, List, [], ◌∷◌, ◌++◌, length, vec_items, slice_index_or}
 use Rattle.mesh.specs.declared.link.Link.{Link}
 use Rattle.mesh.specs.declared.mesh.Mesh.{Mesh}
-use Rattle.label.specs.Kinds.{Kind, Lawful}
+use Rattle.label.specs.Kinds.{Kind}
 
 -- A mesh as a graph: nodes are the numbers below `nodes`, and links are numbered from 0.
 pub record Graph : Type 0 where
@@ -53,12 +53,12 @@ abbrev pub NeverBetter : {L : Type 0} → Kind L → Type 0
 NeverBetter κ = (g : Graph) (js ks : List ℕ) → κ.rank (path_label κ g ks) ≤ κ.rank (path_label κ g (js ++ ks))
 
 -- of two paths, the one at least as good stays so when both go on over the same links
-abbrev pub Goes_on : {L : Type 0} → Kind L → Type 0
-Goes_on κ = (g : Graph) (is js ks : List ℕ) → κ.rank (path_label κ g js) ≤ κ.rank (path_label κ g ks) → κ.rank (path_label κ g (is ++ js)) ≤ κ.rank (path_label κ g (is ++ ks))
+abbrev pub GoesOn : {L : Type 0} → Kind L → Type 0
+GoesOn κ = (g : Graph) (is js ks : List ℕ) → κ.rank (path_label κ g js) ≤ κ.rank (path_label κ g ks) → κ.rank (path_label κ g (is ++ js)) ≤ κ.rank (path_label κ g (is ++ ks))
 
 pub record PathLaws {L : Type 0} (κ : Kind L) : Type 0 where
   pub none_stays : NoneStays κ
   pub one_best : OneBest κ
   pub root_start : RootStart κ
   pub never_better : NeverBetter κ
-  pub goes_on : Goes_on κ
+  pub goes_on : GoesOn κ

@@ -1,7 +1,6 @@
 -- The kind width.
-use Rattle.std.specs.Prelude.{◌≡◌, ℕ, ◌-◌, ◌<◌, ◌≤◌, min, cond, List, codes, decimal, ◌==◌}
+use Rattle.std.specs.Prelude.{ℕ, ◌-◌, ◌≤◌, min, cond, List, codes, decimal, ◌==◌}
 use Rattle.std.proofs.Common.{arith}
-use Rattle.mesh.specs.declared.link.Link.{Link}
 use Rattle.label.specs.Kinds.{Kind}
 use Rattle.label.specs.declared.width.Width.{Width}
 

@@ -139,8 +139,8 @@ back_events = declines 2 (extended 2 (twice Better)) ∷ away_events Better 2 (t
 
 back_made : Trace Better cost_kind three_nodes back_events back
 back_made =
-    let IsSent-back = goes Better 2 (twice Better) (twice_events Better) (back_ready Better) (twice_made Better (omega arith)) in
-    (away Better 2 (twice Better), IsSent-back, declined Better cost_kind three_nodes 2 (extended 2 (twice Better)) (away Better 2 (twice Better)) refl (λ h. omega (arith, h)))
+    let sent_back = goes Better 2 (twice Better) (twice_events Better) (back_ready Better) (twice_made Better (omega arith)) in
+    (away Better 2 (twice Better), sent_back, declined Better cost_kind three_nodes 2 (extended 2 (twice Better)) (away Better 2 (twice Better)) refl (λ h. omega (arith, h)))
 
 abbrev calm : State Cost
 calm = rest Better 2 (rest Better 1 (rest Better 0 back))

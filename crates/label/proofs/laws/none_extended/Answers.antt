@@ -1,4 +1,4 @@
-use Rattle.std.proofs.Common.{◌≡◌, sym, ap, ◌∙◌}
+use Rattle.std.proofs.Common.{ap, ◌∙◌}
 use Rattle.label.proofs.Bests.{none_stays}
 use Rattle.label.proofs.laws.none_extended.Goals as goal
 

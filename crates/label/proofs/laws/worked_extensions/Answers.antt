@@ -1,5 +1,5 @@
-use Rattle.std.proofs.Common.{◌≡◌, refl, arith}
-use Rattle.label.specs.Laws.{Worked, cost_same, width_same}
+use Rattle.std.proofs.Common.{refl, arith}
+use Rattle.label.specs.Laws.{cost_same, width_same}
 use Rattle.label.proofs.laws.worked_extensions.Goals as goal
 
 pub returns : goal.returns

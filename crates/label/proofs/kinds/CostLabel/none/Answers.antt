@@ -1,4 +1,3 @@
-use Rattle.std.proofs.Common.{◌∙◌}
 use Rattle.label.specs.Laws.{cost_same}
 use Rattle.label.proofs.kinds.CostLabel.none.Goals as goal
 

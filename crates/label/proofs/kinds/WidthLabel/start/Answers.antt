@@ -1,4 +1,3 @@
-use Rattle.std.proofs.Common.{◌∙◌}
 use Rattle.label.specs.Laws.{width_same}
 use Rattle.label.proofs.kinds.WidthLabel.start.Goals as goal
 
