@@ -6,157 +6,123 @@ use pile::stack::Stack;
 use ring::queue::Queue;
 use std::process::Abort;
 
-#[derive(Clone, Copy)]
-enum Call {
-    Put(u16),
-    Take(u16),
-}
-
-// What a call answers: the number of its refusal, or 0, and the item taken, or 0.
-fn answer<C: Channel<u16>>(c: &mut C, call: Call) -> (u8, u16) {
-    match call {
-        Call::Put(parts) => match c.put(parts) {
-            Ok(()) => (0, 0),
-            Err(fault) => (fault.number(), 0),
-        },
-        Call::Take(pick) => match c.take(pick) {
-            Ok(item) => (0, item.parts),
-            Err(fault) => (fault.number(), 0),
-        },
+// The number of the refusal of a put, or 0.
+fn refused<P: Copy, C: Channel<P>>(c: &mut C, parts: P) -> u8 {
+    match c.put(parts) {
+        Ok(()) => 0,
+        Err(fault) => fault.number(),
     }
 }
 
-// Makes the calls in a row, each of which must answer what stands beside it.
-fn play<C: Channel<u16>>(rt: &impl Abort, c: &mut C, calls: &[(Call, u8, u16)]) {
-    for (call, fault, item) in calls {
-        assert_eq!(rt; answer(c, *call), (*fault, *item));
+// What a take answers, or the number of its refusal.
+fn taken<P: Copy, C: Channel<P>>(c: &mut C, pick: u16) -> Result<P, u8> {
+    match c.take(pick) {
+        Ok(item) => Ok(item.parts),
+        Err(fault) => Err(fault.number()),
     }
 }
 
-// A channel with room for one refuses a take, and then a second put.
-const FILLED: [(Call, u8, u16); 3] = [
-    (Call::Take(0), 32, 0),
-    (Call::Put(5), 0, 0),
-    (Call::Put(6), 31, 0),
-];
-
-// The one item comes out, and then a take is refused once more.
-const EMPTIED: [(Call, u8, u16); 2] = [(Call::Take(65535), 0, 5), (Call::Take(65535), 32, 0)];
-
+// The refusals of a channel with room for one: of a take, of a second put, and of a take once more.
 fn room_for_one<C: Channel<u16>>(rt: &impl Abort, c: &mut C) {
-    play(rt, c, &FILLED);
+    assert_eq!(rt; taken(c, 0), Err(32));
+    assert_eq!(rt; refused(c, 5), 0);
+    assert_eq!(rt; refused(c, 6), 31);
     assert_eq!(rt; (c.waiting(), c.capacity()), (1, 1));
-    play(rt, c, &EMPTIED);
+    assert_eq!(rt; taken(c, 65535), Ok(5));
+    assert_eq!(rt; taken(c, 65535), Err(32));
 }
 
 #[test]
-fn one_slot_queue(rt: HostRuntime) {
-    room_for_one(&rt, &mut Queue::new(&mut [Item { parts: 0u16 }; 1]));
+fn one_slot(rt: HostRuntime) {
+    let mut slots = [Item { parts: 0u16 }; 1];
+    room_for_one(&rt, &mut Queue::new(&mut slots));
+    room_for_one(&rt, &mut Stack::new(&mut slots));
+    room_for_one(&rt, &mut Picked::new(&mut slots));
 }
-
-#[test]
-fn one_slot_stack(rt: HostRuntime) {
-    room_for_one(&rt, &mut Stack::new(&mut [Item { parts: 0u16 }; 1]));
-}
-
-#[test]
-fn one_slot_picked(rt: HostRuntime) {
-    room_for_one(&rt, &mut Picked::new(&mut [Item { parts: 0u16 }; 1]));
-}
-
-const REFUSED: [(Call, u8, u16); 2] = [(Call::Put(1), 31, 0), (Call::Take(0), 32, 0)];
 
 #[test]
 fn no_slot(rt: HostRuntime) {
-    play(
-        &rt,
-        &mut Queue::new(&mut [Item { parts: 0u16 }; 0]),
-        &REFUSED,
-    );
+    let mut slots = [Item { parts: 0u16 }; 0];
+    let mut queue = Queue::new(&mut slots);
+    assert_eq!(rt; refused(&mut queue, 1), 31);
+    assert_eq!(rt; taken(&mut queue, 0), Err(32));
 }
 
 // Three slots; the puts after two takes go round the end.
-const ROUND: [(Call, u8, u16); 12] = [
-    (Call::Put(1), 0, 0),
-    (Call::Put(2), 0, 0),
-    (Call::Put(3), 0, 0),
-    (Call::Take(9), 0, 1),
-    (Call::Take(9), 0, 2),
-    (Call::Put(4), 0, 0),
-    (Call::Put(5), 0, 0),
-    (Call::Put(6), 31, 0),
-    (Call::Take(3), 0, 3),
-    (Call::Take(4), 0, 4),
-    (Call::Take(5), 0, 5),
-    (Call::Take(0), 32, 0),
-];
-
 #[test]
 fn queue_goes_round(rt: HostRuntime) {
-    play(&rt, &mut Queue::new(&mut [Item { parts: 0u16 }; 3]), &ROUND);
+    let mut slots = [Item { parts: 0u16 }; 3];
+    let mut queue = Queue::new(&mut slots);
+    for parts in 1u16..4 {
+        assert_eq!(rt; refused(&mut queue, parts), 0);
+    }
+    assert_eq!(rt; taken(&mut queue, 9), Ok(1));
+    assert_eq!(rt; taken(&mut queue, 9), Ok(2));
+    assert_eq!(rt; refused(&mut queue, 4), 0);
+    assert_eq!(rt; refused(&mut queue, 5), 0);
+    assert_eq!(rt; refused(&mut queue, 6), 31);
+    for parts in 3u16..6 {
+        assert_eq!(rt; taken(&mut queue, parts), Ok(parts));
+    }
+    assert_eq!(rt; taken(&mut queue, 0), Err(32));
 }
-
-const NEWEST: [(Call, u8, u16); 6] = [
-    (Call::Put(1), 0, 0),
-    (Call::Put(2), 0, 0),
-    (Call::Take(0), 0, 2),
-    (Call::Put(3), 0, 0),
-    (Call::Take(1), 0, 3),
-    (Call::Take(0), 0, 1),
-];
 
 #[test]
 fn stack_takes_the_newest(rt: HostRuntime) {
-    play(
-        &rt,
-        &mut Stack::new(&mut [Item { parts: 0u16 }; 3]),
-        &NEWEST,
-    );
+    let mut slots = [Item { parts: 0u16 }; 3];
+    let mut stack = Stack::new(&mut slots);
+    assert_eq!(rt; refused(&mut stack, 1), 0);
+    assert_eq!(rt; refused(&mut stack, 2), 0);
+    assert_eq!(rt; taken(&mut stack, 0), Ok(2));
+    assert_eq!(rt; refused(&mut stack, 3), 0);
+    assert_eq!(rt; taken(&mut stack, 1), Ok(3));
+    assert_eq!(rt; taken(&mut stack, 0), Ok(1));
 }
 
 // Of 10 to 14: 65,535 leaves 0 by 5 and 3 by 4; 7 leaves 1 by 3; the rest stay in their order.
-const PICKS: [(Call, u8, u16); 10] = [
-    (Call::Put(10), 0, 0),
-    (Call::Put(11), 0, 0),
-    (Call::Put(12), 0, 0),
-    (Call::Put(13), 0, 0),
-    (Call::Put(14), 0, 0),
-    (Call::Take(65535), 0, 10),
-    (Call::Take(65535), 0, 14),
-    (Call::Take(7), 0, 12),
-    (Call::Take(0), 0, 11),
-    (Call::Take(0), 0, 13),
-];
-
 #[test]
 fn picks(rt: HostRuntime) {
-    play(
-        &rt,
-        &mut Picked::new(&mut [Item { parts: 0u16 }; 8]),
-        &PICKS,
-    );
-}
-
-fn message(link: u16, label: u32, mark: u16) -> Message<u32> {
-    Message { link, label, mark }
-}
-
-// What a stack gives back of a message put into it.
-fn passed(message: Message<u32>, slots: &mut [Item<Message<u32>>]) -> Option<(u16, u32, u16)> {
-    let mut stack = Stack::new(slots);
-    match channel::uses::pass(&mut stack, message, 0) {
-        Ok(item) => Some((item.parts.link, item.parts.label, item.parts.mark)),
-        Err(_) => None,
+    let mut slots = [Item { parts: 0u16 }; 8];
+    let mut picked = Picked::new(&mut slots);
+    for parts in 10u16..15 {
+        assert_eq!(rt; refused(&mut picked, parts), 0);
     }
+    assert_eq!(rt; taken(&mut picked, 65535), Ok(10));
+    assert_eq!(rt; taken(&mut picked, 65535), Ok(14));
+    assert_eq!(rt; taken(&mut picked, 7), Ok(12));
+    assert_eq!(rt; taken(&mut picked, 0), Ok(11));
+    assert_eq!(rt; taken(&mut picked, 0), Ok(13));
 }
 
 #[test]
 fn messages(rt: HostRuntime) {
-    let mut slots = [Item {
-        parts: message(0, 0, 0),
-    }; 2];
+    let none = Message {
+        link: 0,
+        label: 0u32,
+        mark: 0,
+    };
+    let mut slots = [Item { parts: none }; 2];
+    let mut stack = Stack::new(&mut slots);
     assert_eq!(rt;
-        passed(message(3, 70000, 1000), &mut slots),
-        Some((3, 70000, 1000))
+        refused(
+            &mut stack,
+            Message {
+                link: 3,
+                label: 70000,
+                mark: 1000,
+            },
+        ),
+        0
     );
+    match taken(&mut stack, 0) {
+        Ok(message) => {
+            assert_eq!(rt;
+                (message.link, message.label, message.mark),
+                (3, 70000, 1000)
+            );
+        }
+        Err(number) => {
+            assert_eq!(rt; number, 0);
+        }
+    }
 }
