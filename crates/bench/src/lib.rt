@@ -3,7 +3,7 @@
 
 ghost use Rattle.bench.specs.Counted.{Counts};
 
-use session::session::Room;
+use session::reader::read;
 use std::alloc::Global;
 
 pub mod channels;
@@ -13,10 +13,7 @@ pub mod channels;
 pub extern "C" fn bench_read(heap: Global, bytes: &[u8]) -> usize
     ensures { Counts bytes.now result }
 {
-    let Ok(room) = Room::reserve(heap) else {
-        return 0;
-    };
-    match room.read(bytes) {
+    match read(heap, bytes) {
         Ok(session) => session.mesh.links.len().wrapping_add(session.steps.len()),
         Err(_) => 0,
     }

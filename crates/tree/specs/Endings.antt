@@ -19,8 +19,8 @@ module _ (nodes root : ℕ) (announced : Bool) (rs : List Node) (marks items : L
   parent_engaged k p e = deficit_engaged p (omega (arith, b.deficits p, child_counts rs k p e))
 
   root_or_child : (k : ℕ) → announced ≡ true → (node_at rs k).engaged ≡ true → ((p : ℕ) → tree_parent (node_at rs k) ≢ Some p) → (o : Option ℕ) → tree_parent (node_at rs k) ≢ o
-  root_or_child k ann eng no-child None e = both_ways (node_at rs k).engaged (not-true _ (sym ((b.fits k).announces ((b.fits k).parentless eng e)) ∙ ann)) eng
-  root_or_child k ann eng no-child (Some p) e = no-child p e
+  root_or_child k ann eng no_child None e = both_ways (node_at rs k).engaged (not-true _ (sym ((b.fits k).announces ((b.fits k).parentless eng e)) ∙ ann)) eng
+  root_or_child k ann eng no_child (Some p) e = no_child p e
 
   -- Assume that it has announced and that some node is in the tree. That node is not the root, which has left, so it has
   -- a parent, which is in the tree too and has a lower rank. Going on so, ranks would fall for ever.

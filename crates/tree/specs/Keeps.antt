@@ -15,8 +15,8 @@ use Rattle.tree.specs.Family.{some≢none, outside_parent, child_counts, no_chil
 use Rattle.tree.specs.Endings.{too_soon_never}
 
 pub by_bool : (b : Bool) (P : Bool → Type 0) → (b ≡ true → P true) → (b ≡ false → P false) → P b
-by_bool true P yes-case no-case = yes-case refl
-by_bool false P yes-case no-case = no-case refl
+by_bool true P yes_case no_case = yes_case refl
+by_bool false P yes_case no_case = no_case refl
 
 -- in balance once the item answered waits too, which is owed no more
 abbrev pub Lands : (nodes root : ℕ) (announced : Bool) (rs : List Node) (marks items : List ℕ) → ℕ → Option ℕ → Type 0
@@ -83,15 +83,15 @@ module _ (nodes root : ℕ) (announced : Bool) (rs : List Node) (i : ℕ) (lt : 
       let rank = b.loose.rank in
       let old = b.loose.deficits in
       let still : r.deficit ≡ 0 = (f.outside free).1 in
-      let lone-child : (n : ℕ) → child n r ≡ 0 = λ n. ap (parent_hit n) (outside_parent r free) in
+      let lone_child : (n : ℕ) → child n r ≡ 0 = λ n. ap (parent_hit n) (outside_parent r free) in
       let not_root : i ≢ root = λ e.
       let rest : m ∷ marks ≡ [] = (too_soon_never nodes root announced rs (m ∷ marks) items b.loose (f.announces e ∙ ap not free)).1 in
       let z : ◌≡◌ {A = ℕ} 0 1 = cc in omega arith in
       let apart : m ≢ i = λ e. let d : hits i (m ∷ marks) ≡ hits i (i ∷ marks) = ap (λ j. hits i (j ∷ marks)) e in
       omega (arith, old i, still, hits_cons i i marks, hit_same i, d) in
       let up : ℕ → ℕ = raised_rank rank i m in
-      let up-here : up i ≡ rank m + 1 = cond-true (i == i) _ _ (eq-eqb i i refl) in
-      let up-other : (k : ℕ) → k ≢ i → up k ≡ rank k = λ k ne. cond-false (k == i) _ _ (ne_eqb k i ne) in
+      let up_here : up i ≡ rank m + 1 = cond-true (i == i) _ _ (eq-eqb i i refl) in
+      let up_other : (k : ℕ) → k ≢ i → up k ≡ rank k = λ k ne. cond-false (k == i) _ _ (ne_eqb k i ne) in
       record {
         loose = record {
           rank = up;
@@ -100,7 +100,7 @@ module _ (nodes root : ℕ) (announced : Bool) (rs : List Node) (i : ℕ) (lt : 
                 outside = h.outside;
                 above = λ p e.
                     let other : p ≢ i = λ same. omega (arith, child_counts rs k i (e ∙ ap Some same), old i, still) in
-                    omega (arith, h.above p e, up-other k ne, up-other p other);
+                    omega (arith, h.above p e, up_other k ne, up_other p other);
                 parentless = h.parentless;
                 top = h.top;
                 absent = h.absent;
@@ -108,15 +108,15 @@ module _ (nodes root : ℕ) (announced : Bool) (rs : List Node) (i : ℕ) (lt : 
               })
               (record {
                 outside = λ e. absurd (true≢false e);
-                above = λ p e. let same : m ≡ p = cc in omega (arith, up-here, up-other m apart, ap up same);
+                above = λ p e. let same : m ≡ p = cc in omega (arith, up_here, up_other m apart, ap up same);
                 parentless = λ _ e. absurd (some≢none (Some m) m refl e);
                 top = λ e. absurd (not_root e);
                 absent = λ far. absurd (omega arith);
                 announces = λ e. absurd (not_root e);
               });
           deficits = deficits_set rs (m ∷ marks) items i (joining r m) marks items lt old
-              (λ n ne. omega (arith, hits_cons n m marks, lone-child n))
-              (omega (arith, hits_cons i m marks, lone-child i));
+              (λ n ne. omega (arith, hits_cons n m marks, lone_child n))
+              (omega (arith, hits_cons i m marks, lone_child i));
         };
         waits = each_set (λ k x. Waits x) rs i (joining r m) lt (λ k ne. b.waits k) (λ e p. absurd (true≢false p));
       }
@@ -149,23 +149,23 @@ module _ (nodes root : ℕ) (announced : Bool) (rs : List Node) (i : ℕ) (lt : 
   leaf_keeps : (marks items : List ℕ) (p : ℕ) → Ready → i ≢ root → tree_parent (node_at rs i) ≡ Some p → Loose nodes root announced rs marks items → ((k : ℕ) → k ≢ i → Waits (node_at rs k)) → Balanced nodes root announced (slice_set rs i (left (node_at rs i))) marks (p ∷ items)
   leaf_keeps marks items p h not_root e b others =
       let r = node_at rs i in
-      let child-is : (n : ℕ) → child n r ≡ hit n p = λ n. ap (parent_hit n) e in
+      let child_is : (n : ℕ) → child n r ≡ hit n p = λ n. ap (parent_hit n) e in
       record {
         loose = record {
           rank = b.rank;
           fits = each_set (Fits nodes root announced b.rank) rs i (left r) lt (λ k ne. b.fits k) (left_fits b.rank announced h (λ same. absurd (not_root same)));
           deficits = deficits_set rs marks items i (left r) marks (p ∷ items) lt b.deficits
-              (λ n ne. omega (arith, hits_cons n p items, child-is n))
-              (omega (arith, hits_cons i p items, child-is i, h.empty));
+              (λ n ne. omega (arith, hits_cons n p items, child_is n))
+              (omega (arith, hits_cons i p items, child_is i, h.empty));
         };
         waits = each_set (λ k x. Waits x) rs i (left r) lt others (λ e' _. absurd (true≢false (sym e')));
       }
 
   -- The root leaves and announces; it has no parent, so no deficit counts it.
   root_keeps : (marks items : List ℕ) → i ≡ root → Ready → Loose nodes root announced rs marks items → ((k : ℕ) → k ≢ i → Waits (node_at rs k)) → Balanced nodes root true (slice_set rs i (left (node_at rs i))) marks items
-  root_keeps marks items is-root h b others =
+  root_keeps marks items is_root h b others =
       let r = node_at rs i in
-      let child-is : (n : ℕ) → child n r ≡ 0 = λ n. ap (parent_hit n) ((b.fits i).top is-root) in
+      let child_is : (n : ℕ) → child n r ≡ 0 = λ n. ap (parent_hit n) ((b.fits i).top is_root) in
       record {
         loose = record {
           rank = b.rank;
@@ -176,12 +176,12 @@ module _ (nodes root : ℕ) (announced : Bool) (rs : List Node) (i : ℕ) (lt : 
                 parentless = f.parentless;
                 top = f.top;
                 absent = f.absent;
-                announces = λ same. absurd (ne (same ∙ sym is-root));
+                announces = λ same. absurd (ne (same ∙ sym is_root));
               })
               (left_fits b.rank true h (λ _. refl));
           deficits = deficits_set rs marks items i (left r) marks items lt b.deficits
-              (λ n ne. omega (arith, child-is n))
-              (omega (arith, child-is i, h.empty));
+              (λ n ne. omega (arith, child_is n))
+              (omega (arith, child_is i, h.empty));
         };
         waits = each_set (λ k x. Waits x) rs i (left r) lt others (λ e _. absurd (true≢false (sym e)));
       }
@@ -228,14 +228,14 @@ Leaves nodes root announced rs i marks items r owe =
 module _ (nodes root : ℕ) (announced : Bool) (rs : List Node) (i : ℕ) (lt : i < length rs) where
   -- The record of node i becomes r, and then settles.
   changed_settles : (marks items : List ℕ) (r : Node) → has_parent r ≡ has_parent (node_at rs i) → Loose nodes root announced (slice_set rs i r) marks items → ((k : ℕ) → Waits (node_at rs k)) → Leaves nodes root announced rs i marks items r (owed rs marks)
-  changed_settles marks items r parent-same b waits =
+  changed_settles marks items r parent_same b waits =
       let xs = set rs i r in
       let lt' : i < length xs = rw (length-set rs i r) lt in
       let top = nat_eq i root in
       let start = settles nodes root announced xs i lt' marks items b (λ k ne. subst Waits (sym (get_or-set_other rs i k r blank ne)) (waits k)) in
       let read : node_at xs i ≡ r = get_or-set_same rs i r blank lt in
       let one : Leaves nodes root announced xs i marks items r (owed xs marks) = subst (λ x. Leaves nodes root announced xs i marks items x (owed xs marks)) read start in
-      let two : Leaves nodes root announced xs i marks items r (owed rs marks) = subst (Leaves nodes root announced xs i marks items r) (omega (arith, with_parent_set rs i r lt, parent-same)) one in
+      let two : Leaves nodes root announced xs i marks items r (owed rs marks) = subst (Leaves nodes root announced xs i marks items r) (omega (arith, with_parent_set rs i r lt, parent_same)) one in
       subst (λ ys. Lands nodes root (announced_by top announced (leaving r)) ys marks items (owed rs marks) (signal_of top r.parent (leaving r))) (set-set rs i r (settled r)) two
 
   -- Idled. Being passive only means that the node may be able to leave.

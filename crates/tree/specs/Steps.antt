@@ -36,15 +36,15 @@ pub record Sent (t : Tree) (i mark : ℕ) (u : Tree) : Type 0 where
 
 -- the signal that comes of an outcome at a node with that parent: the root, when it leaves, sends none
 abbrev pub signal_of : Bool → Option ℕ → Outcome → Option ℕ
-signal_of is-root parent Nothing = None
-signal_of is-root parent (Signal m) = Some m
-signal_of is-root parent Left = cond is-root None parent
+signal_of is_root parent Nothing = None
+signal_of is_root parent (Signal m) = Some m
+signal_of is_root parent Left = cond is_root None parent
 
 -- announced, once the root has left
 abbrev pub announced_by : Bool → Bool → Outcome → Bool
-announced_by is-root was Nothing = was
-announced_by is-root was (Signal m) = was
-announced_by is-root was Left = cond is-root true was
+announced_by is_root was Nothing = was
+announced_by is_root was (Signal m) = was
+announced_by is_root was Left = cond is_root true was
 
 -- An event happens at node i: its record changes as the rules say; when the root leaves the tree, it announces, and when
 -- any other node does, it signals its parent.
