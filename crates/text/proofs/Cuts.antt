@@ -2,30 +2,9 @@
 use Rattle.std.proofs.Common.{◌≡◌, ℕ, ◌+◌, ◌-◌, ◌<◌, ◌≤◌, ◌⊎◌, List, [], ◌∷◌, ◌++◌, length, get_or, take, drop, sym, refl, ap, ◌∙◌, subst, inl, inr, append_assoc, append-nil, add-zero, arith}
 use Rattle.std.specs.List.{AllByRecursion}
 use Rattle.std.proofs.ByRecursion.{All-push}
-use Rattle.std.proofs.lemmas.List.{length_push, length-append, length-take-le, take-append-drop, take_all, take_at, drop-drop, get_or-drop, length-drop, drop_more, take_rest, nil_from_length}
+use Rattle.std.proofs.lemmas.List.{length_push, length-append, length-take-le, take-append-drop, take_at, get_or-drop, length-drop, drop_more, take_rest, nil_from_length}
 use Rattle.text.specs.Lines.{Mark, Field, Fields, Parted, spaced}
-
--- Two lists that agree, each cut at the first element that does not pass P, have the same cut.
-pub same_cut : (P : ℕ → Type 0) (f g : List ℕ) (x y : ℕ) (xs ys : List ℕ) → AllByRecursion P f → AllByRecursion P g → (P x → ⊥) → (P y → ⊥) → f ++ (x ∷ xs) ≡ g ++ (y ∷ ys) → (f ≡ g) × (x ≡ y) × (xs ≡ ys)
-same_cut P [] [] x y xs ys a b p q e = (refl, cc, cc)
-same_cut P [] (c ∷ g) x y xs ys a b p q e = let k : c ≡ x = cc in absurd (p (subst P k b.0))
-same_cut P (c ∷ f) [] x y xs ys a b p q e = let k : c ≡ y = cc in absurd (q (subst P k a.0))
-same_cut P (c ∷ f) (d ∷ g) x y xs ys a b p q e =
-    let k : c ≡ d = cc in
-    let t : f ++ (x ∷ xs) ≡ g ++ (y ∷ ys) = cc in
-    let r = same_cut P f g x y xs ys a.1 b.1 p q t in
-    let s = r.0 in
-    (cc, r.1, r.2)
-
--- A list that passes P throughout has no element that does not.
-pub no_stop : (P : ℕ → Type 0) (f g : List ℕ) (x : ℕ) (xs : List ℕ) → AllByRecursion P g → (P x → ⊥) → f ++ (x ∷ xs) ≡ g → ⊥
-no_stop P [] [] x xs b p e = let z : ◌≡◌ {A = ℕ} 0 1 = cc in omega arith
-no_stop P [] (c ∷ g) x xs b p e = let k : c ≡ x = cc in p (subst P k b.0)
-no_stop P (d ∷ f) [] x xs b p e = let z : ◌≡◌ {A = ℕ} 0 1 = cc in omega arith
-no_stop P (d ∷ f) (c ∷ g) x xs b p e = let t : f ++ (x ∷ xs) ≡ g = cc in no_stop P f g x xs b.1 p t
-
-pub no_space : Mark 32 → ⊥
-no_space m = omega (arith, m.0)
+use Rattle.text.specs.FieldsOnce.{same_cut, no_stop, no_space}
 
 -- each of these fields, with the space after it
 abbrev pub led : List (List ℕ) → List ℕ
@@ -135,18 +114,6 @@ headed after b h e = drop_more after 0 0 h ∙ ap (λ c. c ∷ drop 1 after) e �
 pub ended : (after : List ℕ) → length after ≡ 0 → (f : List ℕ) → f ++ after ≡ f
 ended after e f = ap (λ t. f ++ t) (nil_from_length after e) ∙ append-nil f
 
--- A line has its fields in one way: each field ends at the first byte that no field holds.
-pub fields_same : (line : List ℕ) (fs gs : List (List ℕ)) → Fields line fs → Fields line gs → fs ≡ gs
-fields_same line [] gs v w = absurd (omega (arith, v.some))
-fields_same line (f ∷ fs) [] v w = absurd (omega (arith, w.some))
-fields_same line (f ∷ []) (g ∷ []) v w = ap (λ t. t ∷ []) (sym v.is ∙ w.is)
-fields_same line (f ∷ []) (g ∷ h ∷ gs) v w = absurd (no_stop Mark g f 32 (spaced (h ∷ gs)) v.each.0.1 no_space (sym w.is ∙ v.is))
-fields_same line (f ∷ e ∷ fs) (g ∷ []) v w = absurd (no_stop Mark f g 32 (spaced (e ∷ fs)) w.each.0.1 no_space (sym v.is ∙ w.is))
-fields_same line (f ∷ e ∷ fs) (g ∷ h ∷ gs) v w =
-    let r = same_cut Mark f g 32 32 (spaced (e ∷ fs)) (spaced (h ∷ gs)) v.each.0.1 w.each.0.1 no_space no_space (sym v.is ∙ w.is) in
-    let t = fields_same (spaced (e ∷ fs)) (e ∷ fs) (h ∷ gs) (record { is = refl; each = v.each.1; some = omega arith }) (record { is = r.2; each = w.each.1; some = omega arith }) in
-    let s = r.0 in cc
-
 -- What `first_field` parts off a line of fields is its first field, and the others are left.
 pub first_of : (f : List ℕ) (fs : List (List ℕ)) (front rest : List ℕ) → AllByRecursion Field (f ∷ fs) → Parted (spaced (f ∷ fs)) front rest → (front ≡ f) × (rest ≡ spaced fs)
 first_of f [] front rest w (m, inl (e, n)) = (sym e, n)
@@ -156,53 +123,16 @@ first_of f (g ∷ fs) front rest w (m, inr (b, p, e)) =
     let r = same_cut Mark front f b 32 rest (spaced (g ∷ fs)) m w.0.1 p no_space (sym e) in
     (r.0, r.2)
 
--- What `span` found from place at of the text on: the next n bytes, which a field may hold, and no more.
-pub record Reach (text : List ℕ) (at n : ℕ) : Type 0 where
-  pub inside : at ≤ length text
-  pub within : n ≤ length (take (length text - at) (drop at text))
-  pub marks : AllByRecursion Mark (take n (take (length text - at) (drop at text)))
-  pub stops : n < length (take (length text - at) (drop at text)) → Mark (get_or (take (length text - at) (drop at text)) n 0) → ⊥
+-- what has come is as long as the text without the rest, and each field of it has a byte and the space after it
+pub room : (text : List ℕ) (fs : List (List ℕ)) (rest : List ℕ) → Sofar text fs rest → length fs + length rest ≤ length text
+room text fs rest s = omega (arith, ap length s.is, length-append (led fs) rest, led_length fs)
+  where
+    led_length : (gs : List (List ℕ)) → length gs ≤ length (led gs)
+    led_length [] = omega arith
+    led_length (g ∷ gs) = omega (arith, led_length gs, length-append g (32 ∷ led gs))
 
-module _ (text : List ℕ) (at n : ℕ) (r : Reach text at n) where
-  part : take (length text - at) (drop at text) ≡ drop at text
-  part = take_rest text at
-
-  -- the bytes of the field
-  abbrev pub found : List ℕ
-  found = take n (drop at text)
-
-  pub found_marks : AllByRecursion Mark found
-  found_marks = subst (λ t. AllByRecursion Mark (take n t)) part r.marks
-
-  long : at + n ≤ length text
-  long = omega (arith, r.within, ap length part, length-drop at text, r.inside)
-
-  found_length : length found ≡ n
-  found_length = length-take-le n (drop at text) (omega (arith, long, length-drop at text))
-
-  pub found_field : (n ≡ 0 → ⊥) → Field found
-  found_field some = (omega (arith, some, found_length), found_marks)
-
-  pub nothing : n ≡ 0 → 0 < length (drop at text) → Mark (get_or (drop at text) 0 0) → ⊥
-  nothing z h m =
-      r.stops (subst (λ k. k < length (take (length text - at) (drop at text))) (sym z) (subst (λ t. 0 < length t) (sym part) h))
-      (subst (λ k. Mark (get_or (take (length text - at) (drop at text)) k 0)) (sym z) (subst (λ t. Mark (get_or t 0 0)) (sym part) m))
-
-  pub all_found : length text ≤ at + n → AllByRecursion Mark (drop at text)
-  all_found h = subst (AllByRecursion Mark) (take_all n (drop at text) (omega (arith, length-drop at text))) found_marks
-
-  -- the byte after the field, and the rest
-  pub split : at + n < length text → drop at text ≡ found ++ (get_or text (at + n) 0 ∷ drop ((at + n) + 1) text)
-  split h = sym (take-append-drop n (drop at text)) ∙ ap (λ t. found ++ t) (drop-drop n at text ∙ drop_more text (at + n) 0 h)
-
-  pub stop_mark : at + n < length text → Mark (get_or text (at + n) 0) → ⊥
-  stop_mark h m =
-      r.stops (omega (arith, ap length part, length-drop at text))
-      (subst Mark (sym (ap (λ t. get_or t n 0) part ∙ get_or-drop at text n 0)) m)
-
-  -- The line before a line feed at that place is as long as that place.
-  pub line_at : (fs : List (List ℕ)) → Sofar text fs (drop at text) → take ((at + n) - 0) text ≡ led fs ++ found
-  line_at fs s =
-      let a : length (led fs) ≡ at = omega (arith, ap length s.is, length-append (led fs) (drop at text), length-drop at text, r.inside) in
-      let e : text ≡ (led fs ++ found) ++ drop n (drop at text) = s.is ∙ ap (λ t. led fs ++ t) (sym (take-append-drop n (drop at text))) ∙ sym (append_assoc (led fs) found (drop n (drop at text))) in
-      ap (take ((at + n) - 0)) e ∙ take_at (led fs ++ found) (drop n (drop at text)) ((at + n) - 0) (omega (arith, length-append (led fs) found, a, found_length))
+-- the line before a line feed is the text without what follows the last field
+pub line_is : (text : List ℕ) (fs : List (List ℕ)) (rest f after : List ℕ) → Sofar text fs rest → rest ≡ f ++ after → take (length text - length after) text ≡ led fs ++ f
+line_is text fs rest f after s e =
+    let is : text ≡ (led fs ++ f) ++ after = s.is ∙ ap (λ t. led fs ++ t) e ∙ sym (append_assoc (led fs) f after) in
+    ap (take (length text - length after)) is ∙ take_at (led fs ++ f) after (length text - length after) (omega (arith, ap length is, length-append (led fs ++ f) after))

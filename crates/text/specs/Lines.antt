@@ -1,6 +1,5 @@
 -- Lines of fields.
-use Rattle.std.specs.Prelude.{◌≡◌, ℕ, ◌<◌, ◌≤◌, ◌⊎◌, List, [], ◌∷◌, ◌++◌, length, Some, None, Option, ◌≢◌}
-use Rattle.std.specs.Borrow.{Bor}
+use Rattle.std.specs.Prelude.{◌≡◌, ℕ, ◌<◌, ◌≤◌, ◌⊎◌, List, [], ◌∷◌, ◌++◌, length, ◌≢◌}
 use Rattle.std.specs.List.{AllByRecursion}
 
 -- a byte that a field may hold
@@ -27,6 +26,10 @@ pub record Fields (line : List ℕ) (fs : List (List ℕ)) : Type 0 where
 abbrev pub Cut : ℕ → List ℕ → List (List ℕ) → Type 0
 Cut n line fs = Fields line fs × (length fs ≡ n)
 
+-- the line has n fields
+abbrev pub HasFields : List ℕ → ℕ → Type 0
+HasFields line n = (fs : List (List ℕ)) × Cut n line fs
+
 -- front is the longest front of a line that a field may hold; one byte parts it from rest, unless it is all
 abbrev pub Parted : List ℕ → List ℕ → List ℕ → Type 0
 Parted line front rest =
@@ -36,8 +39,3 @@ Parted line front rest =
 -- no line feed
 abbrev pub Unbroken : List ℕ → Type 0
 Unbroken t = AllByRecursion (λ b. b ≢ 10) t
-
--- the text begins with a line of fields: n of them, the line and what follows its line feed; none where it does not
-abbrev pub FirstLine : List ℕ → Option (ℕ × Bor (List ℕ) × Bor (List ℕ)) → Type 0
-FirstLine text (Some p) = (text ≡ p.1.now ++ 10 ∷ p.2.now) × ((fs : List (List ℕ)) × Cut p.0 p.1.now fs)
-FirstLine text None = (line after : List ℕ) (fs : List (List ℕ)) → text ≡ line ++ 10 ∷ after → Fields line fs → ⊥

@@ -1,4 +1,5 @@
 -- Bytes written into a caller's output.
+use Rattle.text.specs.declared.output.Output.{Output}
 use Rattle.std.specs.Prelude.{◌≡◌, ℕ, ◌+◌, ◌^◌, ◌<◌, List, [], ◌∷◌, length, slice_set}
 
 -- old with the bytes of s from place at on, as far as old reaches; all other places are as they were
@@ -10,3 +11,8 @@ stamped old at (b ∷ s) = stamped (slice_set old at b) (at + 1) s
 pub record Puts (old : List ℕ) (at : ℕ) (s new : List ℕ) (end : ℕ) : Type 0 where
   pub place : at + length s < 2 ^ 64 → end ≡ at + length s
   pub after : at + length s < 2 ^ 64 → new ≡ stamped old at s
+
+-- the text s was written into the output
+pub record Writes (before : Output) (s : List ℕ) (after : Output) : Type 0 where
+  pub puts : Puts before.bytes.now before.end s after.bytes.now after.end
+  pub same : after.bytes.ghost_name ≡ before.bytes.ghost_name

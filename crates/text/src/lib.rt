@@ -2,5 +2,6 @@
 #![tactic(auto)]
 
 pub mod cut;
+pub mod line;
 pub mod number;
 pub mod output;

@@ -1,19 +1,16 @@
 //! A number in a field.
-ghost use Rattle.std.specs.Prelude.{◌≡◌, ◌<◌, length, Decides, MatchResult, slice_index};
+ghost use Rattle.std.specs.Prelude.{◌≡◌, ◌<◌, ◌↔◌, length, IsTrue, MatchResult, slice_index};
 ghost use Rattle.text.specs.Decimal.{Writes, Number};
 
 /// A field does not hold what its column takes.
-#[derive(Clone, Copy)]
+#[derive(Clone, Copy, Debug, PartialEq, Eq, Hash)]
 pub struct FieldFault;
 
 // Whether a zero stands before other bytes.
 fn padded(text: &[u8]) -> bool
-    ensures { Decides result ((1 < length text.now) × (slice_index text.now 0 ≡ 48)) }
+    ensures { IsTrue result ↔ ((1 < length text.now) × (slice_index text.now 0 ≡ 48)) }
 {
-    match text {
-        [b'0', _, ..] => true,
-        _ => false,
-    }
+    matches!(text, [b'0', _, ..])
 }
 
 /// The number from `low` to `high` that `text` writes in decimal, without a leading zero.
@@ -24,7 +21,7 @@ pub fn number(text: &[u8], low: u16, high: u16) -> Result<u16, FieldFault>
     let most = high as u32;
     let mut value: u32 = 0;
     for b in text {
-        if *b < b'0' || *b > b'9' {
+        if !b.is_ascii_digit() {
             return Err(FieldFault);
         }
         if value <= most {

@@ -1,38 +1,54 @@
 //! Writing into a caller's output.
 //!
-//! Each function writes its text from a place on, as far as the output reaches, and answers the place after the
-//! text. So one call with an empty output measures a text, and a second one writes it.
-ghost use Rattle.std.specs.Prelude.{[], ◌∷◌, decimal};
-ghost use Rattle.text.specs.Output.{Puts};
+//! Each text is written from a place on, as far as the output reaches. So a first writing into an empty output measures
+//! a text, and a second one writes it.
+ghost use Rattle.std.specs.Prelude.{◌≡◌, [], ◌∷◌, decimal};
+ghost use Rattle.text.specs.Output.{Puts, Writes};
 
-/// Writes one byte.
-pub fn put_byte(out: &mut [u8], at: usize, byte: u8) -> usize
-    ensures { Puts out.old at (byte ∷ []) out.new result }
-{
-    if at < out.len() {
-        out[at] = byte;
-    }
-    at.wrapping_add(1)
+/// A caller's output, and the place from which the next text is written on. Past the end nothing is written, but the
+/// place goes on.
+#[derive(Drop)]
+pub struct Output<'a> {
+    pub bytes: &'a mut [u8],
+    pub end: usize,
 }
 
-/// Writes some bytes.
-pub fn put_bytes(out: &mut [u8], at: usize, bytes: &[u8]) -> usize
-    ensures { Puts out.old at bytes.now out.new result }
-{
-    let mut end = at;
-    for b in bytes {
-        end = put_byte(out, end, *b);
+impl<'a> Output<'a> {
+    /// A caller's output, from its front on.
+    pub fn new(bytes: &'a mut [u8]) -> Output<'a>
+        ensures place { result.end ≡ 0 }
+        ensures same { result.bytes.now ≡ bytes.old }
+        ensures reference { result.bytes.ghost_name ≡ bytes.entry.ghost_name }
+    {
+        Output { bytes, end: 0 }
     }
-    end
-}
 
-/// Writes a number in decimal.
-pub fn put_number(out: &mut [u8], at: usize, n: u64) -> usize
-    ensures { Puts out.old at (decimal n) out.new result }
-{
-    if n < 10 {
-        return put_byte(out, at, 48 + n as u8);
+    /// Writes one byte.
+    pub fn put_byte(&mut self, byte: u8)
+        ensures { Writes self.old (byte ∷ []) self.new }
+    {
+        if self.end < self.bytes.len() {
+            self.bytes[self.end] = byte;
+        }
+        self.end = self.end.wrapping_add(1);
     }
-    let end = put_number(out, at, n / 10);
-    put_byte(out, end, 48 + (n % 10) as u8)
+
+    /// Writes some bytes.
+    pub fn put_bytes(&mut self, bytes: &[u8])
+        ensures { Writes self.old bytes.now self.new }
+    {
+        for b in bytes {
+            self.put_byte(*b);
+        }
+    }
+
+    /// Writes a number in decimal.
+    pub fn put_number(&mut self, n: u64)
+        ensures { Writes self.old (decimal n) self.new }
+    {
+        if n >= 10 {
+            self.put_number(n / 10);
+        }
+        self.put_byte(b'0' + (n % 10) as u8);
+    }
 }

@@ -1,14 +1,16 @@
 use Rattle.std.proofs.Common.{◌≡◌, ◌<◌, ◌++◌, length, get_or, refl, ap, ◌∙◌, inl, inr, arith, ltb-false, ltb-true}
 use Rattle.std.proofs.lemmas.List.{nil_from_length}
+use Rattle.std.proofs.lemmas.List.Elements.{recursion_from_All}
+use Rattle.text.specs.Lines.{Mark}
 use Rattle.text.proofs.Cuts.{Span, all_marks, whole, not_mark, headed, ended}
 use Rattle.text.proofs.cut.first_field.Goals as goal
 use Rattle.text.proofs.cut.first_field.Goals.{After-split_at}
 
-cut : (c : After-split_at) → Span c.args.line.now c.split_at.result.0.now c.split_at.result.1.now c.span-n.result
+cut : (c : After-split_at) → Span c.args.line.now c.split_at.result.0.now c.split_at.result.1.now c.span.result
 cut c = record {
-  within = c.span-n.ensures.within;
-  marks = c.span-n.ensures.marks;
-  stops = c.span-n.ensures.stops;
+  within = c.span.ensures.within;
+  marks = recursion_from_All Mark _ c.span.ensures.marks;
+  stops = c.span.ensures.stops;
   front = c.split_at.ensures.front;
   back = c.split_at.ensures.back;
 }

@@ -1,58 +1,92 @@
-use Rattle.std.proofs.Common.{◌≡◌, ◌+◌, ◌-◌, ◌<◌, [], ◌∷◌, ◌++◌, length, take, drop, sym, ap, ◌∙◌, subst, arith}
-use Rattle.std.proofs.lemmas.List.{length_push, take_rest}
-use Rattle.text.specs.Lines.{Fields}
-use Rattle.text.proofs.Cuts.{Reach, one_more, done, no_line, endless, other_stop, found, found_marks, found_field, nothing, all_found, split, stop_mark, line_at}
+use Rattle.std.proofs.Common.{◌≡◌, ◌-◌, ◌∷◌, ◌++◌, [], List, ℕ, length, take, drop, get_or, refl, sym, ap, ◌≤◌, ◌∙◌, subst, arith, ltb-false, ltb-true, true-eqb, append-nil}
+use borrow.Author.Tests.{eqb-false}
+use Rattle.std.proofs.lemmas.List.{length_push, length-append, nil_from_length}
+use Rattle.std.proofs.lemmas.List.Elements.{recursion_from_All}
+use Rattle.std.specs.List.{AllByRecursion}
+use Rattle.text.specs.Lines.{Mark, Fields, Field}
+use Rattle.text.proofs.Cuts.{Span, all_marks, whole, not_mark, headed, one_more, done, room, line_is, no_line, endless, other_stop}
 use Rattle.text.proofs.cut.first_line.Goals as goal
-use Rattle.text.proofs.cut.first_line.Goals.{After-span-n, then-n-eq0-via-then-n-eq0, then-n-eq0-via-else-n-eq0+then-end-text}
+use Rattle.text.proofs.cut.first_line.Goals.{After-split_at, Else-is_empty, In-10, in_default-via-then-after-lt1, in_default-via-else-after-lt1+in_default-1}
 
-reach : (c : After-span-n) → Reach c.args.text.now c.loop-count.at c.span-n.result
-reach c = record { inside = c.loop-count.invariant.0; within = c.span-n.ensures.within; marks = c.span-n.ensures.marks; stops = c.span-n.ensures.stops }
+cut : (c : After-split_at) → Span c.loop-after.rest.now c.split_at.result.0.now c.split_at.result.1.now c.span.result
+cut c = record {
+  within = c.span.ensures.within;
+  marks = recursion_from_All Mark _ c.span.ensures.marks;
+  stops = c.span.ensures.stops;
+  front = c.split_at.ensures.front;
+  back = c.split_at.ensures.back;
+}
 
-pub returns-then-n-eq0 : goal.returns-then-n-eq0
-returns-then-n-eq0 c line after fs e w =
-    let r = reach (goal.at.returns-then-n-eq0 c).After-span-n in
-    let l = c.loop-count.invariant.2.1.left (line, after, fs, e, w) in
-    elim c.then-n-eq0.branch [
-      | then-n-eq0-via-then-n-eq0 v ↦ no_line _ (nothing _ _ _ r v.if-n-eq0.true) l
-      | then-n-eq0-via-else-n-eq0+then-end-text v ↦ endless _ (all_found _ _ _ r v.if-end-text.true) l
+-- the rest is a field and what follows it
+parts : (c : After-split_at) → c.loop-after.rest.now ≡ c.split_at.result.0.now ++ c.split_at.result.1.now
+parts c = whole _ _ _ _ (cut c)
+
+-- the field, where it is not empty
+field : (c : Else-is_empty) → Field c.split_at.result.0.now
+field c =
+    let a = (goal.at.overflow_add-fields c).After-split_at in
+    let some : length c.split_at.result.0.now ≡ 0 → ⊥ = eqb-false _ _ (sym c.is_empty.ensures ∙ c.if-is_empty.false) in
+    (omega (arith, some), all_marks _ _ _ _ (cut a))
+
+-- A byte that follows the field, and what follows that byte.
+after_is : (c : After-split_at) (b : ℕ) → 1 ≤ length c.split_at.result.1.now → get_or c.split_at.result.1.now 0 0 ≡ b → c.loop-after.rest.now ≡ c.split_at.result.0.now ++ (b ∷ take (length c.split_at.result.1.now - 1) (drop 1 c.split_at.result.1.now))
+after_is c b some e = parts c ∙ ap (λ t. c.split_at.result.0.now ++ t) (headed _ b some e)
+
+-- with no field in front the rest begins with no byte of a field
+pub returns-then-is_empty : goal.returns-then-is_empty
+returns-then-is_empty c line after fs e w =
+    let a = (goal.at.returns-then-is_empty c).After-split_at in
+    let none = nil_from_length c.split_at.result.0.now (true-eqb _ 0 (sym c.if-is_empty.true ∙ c.is_empty.ensures)) in
+    let e' : c.loop-after.rest.now ≡ c.split_at.result.1.now = parts a ∙ ap (λ t. t ++ c.split_at.result.1.now) none in
+    no_line _ (λ some m. not_mark _ _ _ _ (cut a) (omega (arith, ap length e')) (subst (λ t. Mark (get_or t 0 0)) e' m)) (c.loop-after.invariant.1.left (line, after, fs, e, w))
+
+pub overflow_add-fields : goal.overflow_add-fields
+overflow_add-fields c =
+    let a = (goal.at.overflow_add-fields c).After-split_at in
+    let i = c.loop-after.invariant in
+    omega (arith, room _ _ _ i.1, i.2, ap length (parts a), length-append c.split_at.result.0.now c.split_at.result.1.now, (field c).0)
+
+-- what follows the line feed
+abbrev next : In-10 → List ℕ
+next c = take (length c.split_at.result.1.now - 1) (drop 1 c.split_at.result.1.now)
+
+-- what stands before it
+abbrev front : In-10 → List ℕ
+front c = take (length c.args.text.now - length c.split_at.result.1.now) c.args.text.now
+
+ended : (c : In-10) → (c.args.text.now ≡ front c ++ 10 ∷ next c) × Fields (front c) (c.loop-after.invariant.0 ++ c.split_at.result.0.now ∷ [])
+ended c =
+    let a = (goal.at.invariant_of-result c).After-split_at in
+    let b = (goal.at.invariant_of-result c).Else-is_empty in
+    let i = c.loop-after.invariant in
+    let d = done _ i.0 _ _ _ i.1 (field b) (after_is a 10 c.in-10.len_at_least (omega arith)) in
+    let l = line_is _ i.0 _ _ _ i.1 (parts a) in
+    (d.0 ∙ ap (λ t. t ++ 10 ∷ next c) (sym l), subst (λ t. Fields t (i.0 ++ c.split_at.result.0.now ∷ [])) (sym l) d.1)
+
+pub invariant_of-result : goal.invariant_of-result
+invariant_of-result c =
+    let i = c.loop-after.invariant in
+    record { cut = (_, ((ended c).1, omega (arith, length_push i.0 c.split_at.result.0.now, i.2))) }
+
+pub returns-in-10 : goal.returns-in-10
+returns-in-10 c = (ended (goal.at.returns-in-10 c).In-10).0
+
+pub loop-after-preserved : goal.loop-after-preserved
+loop-after-preserved c =
+    let a = (goal.at.loop-after-preserved c).After-split_at in
+    let b = (goal.at.loop-after-preserved c).Else-is_empty in
+    let i = c.loop-after.invariant in
+    (_, one_more _ i.0 _ _ _ i.1 (field b) (after_is a 32 c.in-32.len_at_least (omega arith)), omega (arith, length_push i.0 c.split_at.result.0.now, i.2))
+
+pub returns-in_default : goal.returns-in_default
+returns-in_default c line after fs e w =
+    let a = (goal.at.returns-in_default c).After-split_at in
+    let lined = c.loop-after.invariant.1.left (line, after, fs, e, w) in
+    elim c.in_default.branch [
+      | in_default-via-then-after-lt1 v ↦
+          let none = nil_from_length c.split_at.result.1.now (omega (arith, ltb-true)) in
+          endless _ (subst (λ t. AllByRecursion Mark t) (sym (parts a ∙ ap (λ t. c.split_at.result.0.now ++ t) none ∙ append-nil _)) (all_marks _ _ _ _ (cut a))) lined
+      | in_default-via-else-after-lt1+in_default-1 v ↦
+          let some : 1 ≤ length c.split_at.result.1.now = omega (arith, ltb-false) in
+          other_stop _ _ _ _ (after_is a _ some refl) (all_marks _ _ _ _ (cut a)) (not_mark _ _ _ _ (cut a) some) (λ x. omega (arith, x)) (λ x. omega (arith, x)) lined
     ]
-
-pub returns-then-text-end-eq10 : goal.returns-then-text-end-eq10
-returns-then-text-end-eq10 c =
-    let a = (goal.at.returns-then-text-end-eq10 c).After-span-n in
-    let r = reach a in
-    let text = c.args.text.now in
-    let end = c.loop-count.at + c.span-n.result in
-    let i = c.loop-count.invariant.2 in
-    let in' : end < length text = omega arith in
-    let f = found text c.loop-count.at c.span-n.result r in
-    let tail : drop c.loop-count.at text ≡ f ++ 10 ∷ take (length text - (end + 1)) (drop (end + 1) text) =
-    split _ _ _ r in' ∙ ap (λ b. f ++ (b ∷ drop (end + 1) text)) c.if-text-end-eq10.true ∙ ap (λ t. f ++ 10 ∷ t) (sym (take_rest text (end + 1))) in
-    let d = done text i.0 _ f _ i.1 (found_field _ _ _ r c.if-n-eq0.false) tail in
-    let e = line_at _ _ _ r i.0 i.1 in (
-      d.0 ∙ ap (λ t. t ++ 10 ∷ take (length text - (end + 1)) (drop (end + 1) text)) (sym e),
-      (_, (subst (λ t. Fields t (i.0 ++ f ∷ [])) (sym e) d.1, omega (arith, length_push i.0 f, i.2))),
-    )
-
-pub returns-then-text-end-ne32 : goal.returns-then-text-end-ne32
-returns-then-text-end-ne32 c line after fs e w =
-    let r = reach (goal.at.returns-then-text-end-ne32 c).After-span-n in
-    let in' : c.loop-count.at + c.span-n.result < length c.args.text.now = omega arith in
-    other_stop _ _ _ _ (split _ _ _ r in') (found_marks _ _ _ r) (stop_mark _ _ _ r in') c.if-text-end-eq10.false c.if-text-end-ne32.true (c.loop-count.invariant.2.1.left (line, after, fs, e, w))
-
-pub loop-count-preserved : goal.loop-count-preserved
-loop-count-preserved c =
-    let r = reach (goal.at.loop-count-preserved c).After-span-n in
-    let text = c.args.text.now in
-    let end = c.loop-count.at + c.span-n.result in
-    let i = c.loop-count.invariant.2 in
-    let in' : end < length text = omega arith in
-    let f = found text c.loop-count.at c.span-n.result r in (
-      omega arith,
-      omega (arith, c.loop-count.invariant.1),
-      (
-        _,
-        one_more text i.0 _ f _ i.1 (found_field _ _ _ r c.if-n-eq0.false) (split _ _ _ r in' ∙ ap (λ b. f ++ (b ∷ drop (end + 1) text)) c.if-text-end-ne32.false),
-        omega (arith, length_push i.0 f, i.2),
-      ),
-    )

@@ -1,9 +1,9 @@
-use Rattle.std.proofs.Common.{◌≡◌, ℕ, ◌-◌, ◌≤◌, List, length, drop}
+use Rattle.std.proofs.Common.{◌≡◌, ℕ, List, length}
 use Rattle.text.proofs.Cuts.{Sofar}
 use Rattle.text.proofs.cut.first_line.Given as goal
 
-abbrev pub invariant-loop-count : goal.invariant-loop-count
-invariant-loop-count l = (l.at ≤ length l.text) × (l.count ≤ l.at) × ((fs : List (List ℕ)) × Sofar l.text fs (drop l.at l.text) × (length fs ≡ l.count))
+abbrev pub invariant-loop-after : goal.invariant-loop-after
+invariant-loop-after l = (fs : List (List ℕ)) × Sofar l.text fs l.rest × (length fs ≡ l.fields)
 
-abbrev pub decreases-loop-count : goal.decreases-loop-count
-decreases-loop-count l = length l.text - l.at
+abbrev pub decreases-loop-after : goal.decreases-loop-after
+decreases-loop-after l = length l.rest

@@ -1,21 +1,23 @@
-use Rattle.std.proofs.Common.{◌+◌, ◌<◌, length, take, sym, ◌∙◌, subst, ⊎_elim, arith, true-eqb}
+use Rattle.std.proofs.Common.{◌+◌, ◌<◌, length, take, get_or, sym, ◌∙◌, subst, ⊎_elim, arith, true-eqb}
 use borrow.Author.Tests.{eqb-false}
 use Rattle.std.proofs.lemmas.Bool.{both_ways, cases_lt}
 use Rattle.text.proofs.Digits.{Sofar, byte_of, some_of, zero_alone, value_small, done, one_more, past}
+use Rattle.std.specs.Int.{IsInRange}
 use Rattle.text.proofs.number.number.Goals as goal
-use Rattle.text.proofs.number.number.Goals.{then-b-lt48-via-then-b-lt48, then-b-lt48-via-else-b-lt48+then-b-gt57, then-value-most, else-value-most}
+use Rattle.text.proofs.number.number.Goals.{then-value-most, else-value-most}
 
-pub returns-then-b-lt48 : goal.returns-then-b-lt48
-returns-then-b-lt48 c (n, w) =
+pub returns-then-not-is_ascii_digit : goal.returns-then-not-is_ascii_digit
+returns-then-not-is_ascii_digit c (n, w) =
     let is = byte_of _ _ _ (omega arith) n w c.loop-b.b-index c.loop-b-test.true in
-    elim c.then-b-lt48.branch [ then-b-lt48-via-then-b-lt48 v ↦ omega arith | then-b-lt48-via-else-b-lt48+then-b-gt57 v ↦ omega arith ]
+    grind (arith, is, c.if-not-is_ascii_digit.ensures.cases)
 
 pub loop-b-preserved : goal.loop-b-preserved
 loop-b-preserved c =
     let S = Sofar c.args.high (take (c.loop-b.b-index + 1) c.args.text.now) in
+    let digit : IsInRange 48 57 (get_or c.args.text.now c.loop-b.b-index 0) = c.if-not-is_ascii_digit.ensures.cases in
     elim c.if-value-most.branch [
-      | then-value-most w ↦ subst S (sym w.value-is) (one_more _ _ _ _ c.loop-b-test.true c.loop-b.invariant c.if-b-lt48.false c.if-b-gt57.false w.if-value-most.true)
-      | else-value-most w ↦ subst S (sym w.value-is) (past _ _ _ _ c.loop-b-test.true c.loop-b.invariant c.if-b-lt48.false c.if-b-gt57.false w.if-value-most.false)
+      | then-value-most w ↦ subst S (sym w.value-is) (one_more _ _ _ _ c.loop-b-test.true c.loop-b.invariant digit.0 digit.1 w.if-value-most.true)
+      | else-value-most w ↦ subst S (sym w.value-is) (past _ _ _ _ c.loop-b-test.true c.loop-b.invariant digit.0 digit.1 w.if-value-most.false)
     ]
 
 pub returns-then-is_empty : goal.returns-then-is_empty

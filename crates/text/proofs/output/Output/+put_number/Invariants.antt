@@ -1,4 +1,4 @@
-use Rattle.text.proofs.output.+put_number.Given as goal
+use Rattle.text.proofs.output.Output.+put_number.Given as goal
 
 abbrev pub decreases-put_number : goal.decreases-put_number
 decreases-put_number l = l.n
