@@ -1,5 +1,5 @@
 //! Making meshes: rule by rule, in the order of a session file.
-ghost use Rattle.std.specs.Prelude.{◌≡◌, ◌+◌, ◌*◌, ◌<◌, ◌≤◌, [], ◌∷◌, ◌++◌, length, IfOk, vec_capacity, Decides, MatchResult, nat_le};
+ghost use Rattle.std.specs.Prelude.{◌≡◌, ◌+◌, ◌*◌, ◌<◌, ◌≤◌, [], ◌∷◌, ◌++◌, length, IfOk, vec_capacity, IsTrue, MatchResult, ◌↔◌, nat_le};
 ghost use Rattle.fault.specs.Checks.{Passes, Fails};
 ghost use Rattle.mesh.specs.Rules.{InRange};
 ghost use Rattle.mesh.specs.Checks.{link_fault_number, mesh_fault_number, link_checks, root_checks, mesh_checks};
@@ -59,7 +59,7 @@ impl LinkRoom {
 
 // Whether the numbers of a link fit a mesh of that many nodes.
 fn in_range(nodes: u8, link: Link) -> bool
-    ensures { Decides result (InRange nodes link) }
+    ensures { IsTrue result ↔ InRange nodes link }
 {
     link.from < nodes && link.to < nodes && link.width >= 1
 }

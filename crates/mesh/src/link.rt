@@ -1,7 +1,7 @@
 //! Links, and why one is refused.
 
 /// A directed link between two nodes.
-#[derive(Clone, Copy)]
+#[derive(Clone, Copy, Debug, PartialEq, Eq, Hash)]
 pub struct Link {
     pub from: u8,
     pub to: u8,
@@ -10,7 +10,7 @@ pub struct Link {
 }
 
 /// Why a link can't join a mesh.
-#[derive(Clone, Copy)]
+#[derive(Clone, Copy, Debug, PartialEq, Eq, Hash)]
 pub enum LinkFault {
     /// The mesh has 512 links already.
     TooMany,
@@ -23,7 +23,7 @@ pub enum LinkFault {
 }
 
 /// Why parts make no mesh.
-#[derive(Clone, Copy)]
+#[derive(Clone, Copy, Debug, PartialEq, Eq, Hash)]
 pub enum MeshFault {
     /// The number of nodes is not from 1 to 64.
     Nodes,

@@ -5,3 +5,4 @@ pub mod cut;
 pub mod line;
 pub mod number;
 pub mod output;
+pub mod word;

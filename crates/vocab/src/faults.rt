@@ -10,7 +10,7 @@ use mesh::link::LinkFault;
 use std::alloc::AllocError;
 
 /// Why a line is refused.
-#[derive(Clone, Copy)]
+#[derive(Clone, Copy, Debug, PartialEq, Eq, Hash)]
 pub enum LineFault {
     /// The line is not made of as many fields as its table has columns.
     Layout,
@@ -31,7 +31,7 @@ impl From<LinkFault> for LineFault {
 }
 
 /// Why a file is refused. Lines count from 1.
-#[derive(Clone, Copy)]
+#[derive(Clone, Copy, Debug, PartialEq, Eq, Hash)]
 pub enum ReadFault {
     /// The file has more than 65,536 bytes.
     TooLong,
@@ -60,9 +60,7 @@ impl LineFault {
     {
         match self {
             LineFault::BadField(field) => field,
-            LineFault::Layout => 0,
-            LineFault::WrongNames => 0,
-            LineFault::BadLink(_) => 0,
+            LineFault::Layout | LineFault::WrongNames | LineFault::BadLink(_) => 0,
         }
     }
 }
@@ -95,9 +93,8 @@ impl ReadFault {
         ensures { result ≡ fault_field self }
     {
         match self {
-            ReadFault::TooLong => 0,
             ReadFault::Line(_, fault) => fault.field(),
-            ReadFault::Missing(_) => 0,
+            ReadFault::TooLong | ReadFault::Missing(_) => 0,
         }
     }
 
@@ -110,7 +107,7 @@ impl ReadFault {
 }
 
 /// Why a file gave no session: a fault of its own, or want of memory before it was looked at.
-#[derive(Clone, Copy)]
+#[derive(Clone, Copy, Debug, PartialEq, Eq, Hash)]
 pub enum ReadError {
     Fault(ReadFault),
     Memory,

@@ -1,7 +1,7 @@
 //! The parts of a session.
 
 /// The three tables of a session file.
-#[derive(Clone, Copy)]
+#[derive(Clone, Copy, Debug, PartialEq, Eq, Hash)]
 pub enum Table {
     Settings,
     Links,
@@ -9,21 +9,21 @@ pub enum Table {
 }
 
 /// What a label measures.
-#[derive(Clone, Copy)]
+#[derive(Clone, Copy, Debug, PartialEq, Eq, Hash)]
 pub enum Kind {
     Cost,
     Width,
 }
 
 /// The termination detector.
-#[derive(Clone, Copy)]
+#[derive(Clone, Copy, Debug, PartialEq, Eq, Hash)]
 pub enum Detector {
     Tree,
     Credit,
 }
 
 /// The order in which waiting messages are taken.
-#[derive(Clone, Copy)]
+#[derive(Clone, Copy, Debug, PartialEq, Eq, Hash)]
 pub enum Channel {
     Queue,
     Stack,
@@ -31,7 +31,7 @@ pub enum Channel {
 }
 
 /// The settings of a session: the first table.
-#[derive(Clone, Copy)]
+#[derive(Clone, Copy, Debug, PartialEq, Eq, Hash)]
 pub struct Setting {
     pub nodes: u8,
     pub root: u8,
@@ -41,7 +41,7 @@ pub struct Setting {
 }
 
 /// What a step does.
-#[derive(Clone, Copy)]
+#[derive(Clone, Copy, Debug, PartialEq, Eq, Hash)]
 pub enum Action {
     Deliver,
     Work,
@@ -49,7 +49,7 @@ pub enum Action {
 }
 
 /// A step: the action, and its pick (for work, the node).
-#[derive(Clone, Copy)]
+#[derive(Clone, Copy, Debug, PartialEq, Eq, Hash)]
 pub struct Step {
     pub action: Action,
     pub pick: u16,
