@@ -6,7 +6,8 @@ use Rattle.std.proofs.lemmas.List.{length-map, length-set, get_or-map, get_or-se
 use Rattle.std.proofs.lemmas.Bool.{cases_lt}
 use Rattle.fault.specs.Checks.{Passes, Fails}
 use Rattle.text.specs.Lines.{Field, Fields, Parted, spaced}
-use Rattle.text.proofs.Cuts.{fields_same, first_of}
+use Rattle.text.specs.FieldsOnce.{fields_same}
+use Rattle.text.proofs.Cuts.{first_of}
 use Rattle.vocab.specs.declared.faults.LineFault.TheVariants.{BadField}
 use Rattle.format.specs.Columns.{Order, arranged, FieldTakes}
 use Rattle.format.specs.Filling.{PutAt, Filled}

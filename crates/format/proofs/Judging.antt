@@ -2,7 +2,7 @@
 use Rattle.std.proofs.Common.{◌≡◌, ℕ, ◌+◌, ◌<◌, ◌≤◌, List, length, Ok, Err, Result, ap, subst, inl, inr, arith, MatchResult}
 use Rattle.fault.specs.Checks.{Passes, Fails}
 use Rattle.fault.proofs.Ordered.{fails_later}
-use Rattle.text.specs.Lines.{Cut, spaced}
+use Rattle.text.specs.Lines.{HasFields, spaced}
 use Rattle.mesh.specs.declared.link.Link.{Link}
 use Rattle.mesh.specs.declared.link.LinkFault.{LinkFault}
 use Rattle.mesh.specs.Rules.{EndsDiffer, Joins}
@@ -15,21 +15,17 @@ use Rattle.format.specs.Tables.{setting_takes, link_takes}
 use Rattle.format.specs.Verdict.{names_checks, field_checks, setting_checks, link_line_checks, place_of, SettingLine, LinkLine}
 use Rattle.format.proofs.Unique.{setting_same, link_same}
 
--- some cut of a line into n fields
-abbrev pub HasCut : ℕ → List ℕ → Type 0
-HasCut n line = (fs : List (List ℕ)) × Cut n line fs
-
 -- a line of names in some order
 abbrev pub InOrder : List (List ℕ) → List ℕ → Type 0
 InOrder ws line = (o : List ℕ) × Order (length ws) o × (line ≡ spaced (arranged o ws))
 
 -- what the order of names says of the line of names
-pub named : {T : Type 0} (ws vs : List (List ℕ)) (o line : List ℕ) (r : Result T LineFault) → ws ≡ vs → HasCut (length vs) line → MatchResult r (λ _. Order (length ws) o × (line ≡ spaced (arranged o ws))) (λ e. (InOrder ws line → ⊥) × (e ≡ WrongNames)) → MatchResult r (λ _. Order (length vs) o × (line ≡ spaced (arranged o vs))) (Fails (names_checks vs line))
+pub named : {T : Type 0} (ws vs : List (List ℕ)) (o line : List ℕ) (r : Result T LineFault) → ws ≡ vs → HasFields line (length vs) → MatchResult r (λ _. Order (length ws) o × (line ≡ spaced (arranged o ws))) (λ e. (InOrder ws line → ⊥) × (e ≡ WrongNames)) → MatchResult r (λ _. Order (length vs) o × (line ≡ spaced (arranged o vs))) (Fails (names_checks vs line))
 named ws vs o line (Ok x) e c h = subst (λ us. Order (length us) o × (line ≡ spaced (arranged o us))) e h
 named ws vs o line (Err f) e c h = inr (c, inl (subst (λ us. InOrder us line → ⊥) e h.0, h.1))
 
 -- The root is not below nodes: every field is taken, and the only settings that the line writes break the rule.
-pub root_fails : (o line : List ℕ) (h : Setting) (i : ℕ) → Order 5 o → HasCut 5 line → Passes (field_checks setting_takes line 0 o) → SettingLine o line h → h.nodes ≤ h.root → i ≡ place_of 1 o → Fails (setting_checks o line) (BadField (i + 1))
+pub root_fails : (o line : List ℕ) (h : Setting) (i : ℕ) → Order 5 o → HasFields line 5 → Passes (field_checks setting_takes line 0 o) → SettingLine o line h → h.nodes ≤ h.root → i ≡ place_of 1 o → Fails (setting_checks o line) (BadField (i + 1))
 root_fails o line h i q c p w b e =
     inr (
       c,
@@ -38,7 +34,7 @@ root_fails o line h i q c p w b e =
     )
 
 -- A link that the mesh refuses: it had room and the numbers are in range, so the ends or the pair are at fault.
-pub link_fails : (o : List ℕ) (nodes : ℕ) (ls : List Link) (line : List ℕ) (l : Link) (e : LinkFault) → Order 4 o → nodes ≤ 64 → HasCut 4 line → length ls < 512 → Passes (field_checks (link_takes nodes) line 0 o) → LinkLine o nodes line l → Fails (link_checks nodes ls l) e → Fails (link_line_checks o nodes ls line) (BadLink e)
+pub link_fails : (o : List ℕ) (nodes : ℕ) (ls : List Link) (line : List ℕ) (l : Link) (e : LinkFault) → Order 4 o → nodes ≤ 64 → HasFields line 4 → length ls < 512 → Passes (field_checks (link_takes nodes) line 0 o) → LinkLine o nodes line l → Fails (link_checks nodes ls l) e → Fails (link_line_checks o nodes ls line) (BadLink e)
 link_fails o nodes ls line l e q few c room p w (inl full) = absurd (full.0 room)
 link_fails o nodes ls line l e q few c room p w (inr (_, inl out)) = absurd (out.0 w.range)
 link_fails o nodes ls line l e q few c room p w (inr (_, inr (_, inl same))) =

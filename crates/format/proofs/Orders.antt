@@ -1,5 +1,5 @@
 -- Orders of columns.
-use Rattle.std.proofs.Common.{◌≡◌, ℕ, zero, suc, ◌+◌, ◌<◌, ◌≤◌, cond, ◌⊎◌, List, [], ◌∷◌, ◌++◌, length, get_or, take, sym, refl, ap, ◌∙◌, subst, inl, inr, ⊎_elim, arith}
+use Rattle.std.proofs.Common.{◌≡◌, ℕ, zero, suc, ◌+◌, ◌<◌, ◌≤◌, ◌⊎◌, List, [], ◌∷◌, ◌++◌, length, get_or, take, sym, refl, ap, ◌∙◌, subst, inl, inr, ⊎_elim, arith}
 use mathlib.Core.List.Memᴰ
 use mathlib.Core.List.{Memᴰ}
 use native.Mathlib.Decide.{ℕ_discrete}
@@ -10,7 +10,6 @@ use Rattle.std.proofs.lemmas.Bool.{cases_lt, ne_eqb, eq-eqb}
 use Rattle.text.specs.Lines.{Field, Cut, spaced}
 use Rattle.format.specs.Columns.{Order, arranged}
 use Rattle.format.specs.Filling.{Apart}
-use Rattle.format.specs.Verdict.{place_of}
 use Rattle.mesh.proofs.Pigeons.{Distinct, pigeons}
 
 -- Each column stands somewhere in an order: otherwise it and the n of the order would be n + 1 numbers below n.
@@ -133,15 +132,3 @@ column n o q xs ys e k l =
     let t = each n o q k l in
     let f : (zs : List (List ℕ)) → get_or (arranged o zs) t.0 [] ≡ get_or zs k [] = λ zs. get_or-map (λ a. get_or zs a []) o t.0 0 [] t.1 ∙ ap (λ a. get_or zs a []) t.2 in
     sym (f xs) ∙ ap (λ a. get_or a t.0 []) e ∙ f ys
-
--- the place of a column
-pub place_found : (k : ℕ) (o : List ℕ) (i : ℕ) → i < length o → ((j : ℕ) → j < i → get_or o j 0 ≡ k → ⊥) → get_or o i 0 ≡ k → i ≡ place_of k o
-place_found k [] i l none here = absurd (omega arith)
-place_found k (j ∷ o) zero l none here = sym (ap (λ b. cond b 0 (suc (place_of k o))) (eq-eqb j k here))
-place_found k (j ∷ o) (suc i) l none here =
-    ap suc (place_found k o i (omega arith) (λ a b. none (suc a) (omega arith)) here) ∙ sym (ap (λ b. cond b 0 (suc (place_of k o))) (ne_eqb j k (none 0 (omega arith))))
-
-pub place_none : (k : ℕ) (o : List ℕ) → ((j : ℕ) → j < length o → get_or o j 0 ≡ k → ⊥) → length o ≡ place_of k o
-place_none k [] none = refl
-place_none k (j ∷ o) none =
-    ap suc (place_none k o (λ a b. none (suc a) (omega arith))) ∙ sym (ap (λ b. cond b 0 (suc (place_of k o))) (ne_eqb j k (none 0 (omega arith))))

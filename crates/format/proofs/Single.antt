@@ -11,7 +11,7 @@ use Rattle.std.proofs.lemmas.Bool.{true≢false}
 use Rattle.fault.specs.Checks.{Passes, Fails}
 use Rattle.fault.proofs.Ordered.{fails_same, passes_not_fails, passes_both}
 use Rattle.text.specs.Lines.{Unbroken, spaced}
-use Rattle.text.proofs.Cuts.{same_cut, no_stop, fields_same}
+use Rattle.text.specs.FieldsOnce.{same_cut, no_stop, fields_same}
 use Rattle.mesh.specs.declared.link.Link.{Link}
 use Rattle.mesh.specs.Rules.{InRange, EndsDiffer, Joins}
 use Rattle.vocab.specs.declared.kinds.Table.{Table}

@@ -3,7 +3,7 @@ use Rattle.std.proofs.Common.{◌≡◌, ℕ, ◌<◌, ◌≤◌, List, [], leng
 use Rattle.std.specs.List.{AllByRecursion}
 use Rattle.std.proofs.lemmas.Fmt.{decimal_injective}
 use Rattle.text.specs.Lines.{Field, spaced}
-use Rattle.text.proofs.Cuts.{fields_same}
+use Rattle.text.specs.FieldsOnce.{fields_same}
 use Rattle.mesh.specs.declared.link.Link.{Link}
 use Rattle.vocab.specs.declared.kinds.Kind.{Kind}
 use Rattle.vocab.specs.declared.kinds.Kind.TheVariants.{Cost, Width}

@@ -2,7 +2,8 @@
 -- left of the file, so it speaks of every file that comes to its place with that rest.
 use Rattle.std.specs.Prelude.{◌≡◌, ℕ, ◌+◌, ◌<◌, false, ◌⊎◌, List, [], ◌∷◌, ◌++◌, length, Ok, Err, Result}
 use Rattle.std.specs.Borrow.{Bor}
-use Rattle.text.specs.Lines.{Fields, Cut}
+use Rattle.text.specs.Lines.{Fields}
+use Rattle.text.specs.declared.line.Line.{Line as FieldLine}
 use Rattle.mesh.specs.declared.link.Link.{Link}
 use Rattle.vocab.specs.declared.kinds.Setting.{Setting}
 use Rattle.vocab.specs.declared.kinds.Step.{Step}
@@ -11,9 +12,9 @@ use Rattle.vocab.specs.declared.faults.ReadFault.{ReadFault}
 use Rattle.vocab.specs.declared.faults.ReadFault.TheVariants.{Line, Missing}
 use Rattle.format.specs.Verdict.{UpTo, Refuses, digit_first, at_link_names, at_links, at_steps}
 
--- the next line, of number k: how many fields it has, the line and what follows it
-abbrev pub NextLine : ℕ → List ℕ → Result (ℕ × Bor (List ℕ) × Bor (List ℕ)) ReadFault → Type 0
-NextLine k rest (Ok p) = (rest ≡ p.1.now ++ 10 ∷ p.2.now) × ((fs : List (List ℕ)) × Cut p.0 p.1.now fs)
+-- the next line, of number k, and what follows it
+abbrev pub NextLine : ℕ → List ℕ → Result (FieldLine × Bor (List ℕ)) ReadFault → Type 0
+NextLine k rest (Ok p) = rest ≡ p.0.text.now ++ 10 ∷ p.1.now
 NextLine k rest (Err f) =
     ((rest ≡ []) × (f ≡ Missing k))
     ⊎ ((0 < length rest) × ((line after : List ℕ) (fs : List (List ℕ)) → rest ≡ line ++ 10 ∷ after → Fields line fs → ⊥) × (f ≡ Line k Layout))
@@ -26,9 +27,8 @@ abbrev pub LinkNamesRefused : List ℕ → ReadFault → Type 0
 LinkNamesRefused rest f = (bytes o : List ℕ) (h : Setting) → UpTo bytes (at_link_names o h) rest → Refuses bytes f
 
 -- the links, in the order p, and the line that follows them, which is no link line
-pub record LinksRead (p : List ℕ) (nodes : ℕ) (rest : List ℕ) (ls : List Link) (count : ℕ) (line after : List ℕ) : Type 0 where
+pub record LinksRead (p : List ℕ) (nodes : ℕ) (rest : List ℕ) (ls : List Link) (line after : List ℕ) : Type 0 where
   pub is : (bytes o : List ℕ) (h : Setting) → h.nodes ≡ nodes → UpTo bytes (at_links o h p []) rest → UpTo bytes (at_links o h p ls) (line ++ 10 ∷ after)
-  pub cut : (fs : List (List ℕ)) × Cut count line fs
   pub ends : digit_first line ≡ false
 
 abbrev pub LinksRefused : List ℕ → ℕ → List ℕ → ReadFault → Type 0

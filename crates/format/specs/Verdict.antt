@@ -2,9 +2,10 @@
 --
 -- A file is read line by line. A place says what has been read before a line; each line has its checks, in their
 -- order; the first check that fails is the file's fault.
-use Rattle.std.specs.Prelude.{◌≡◌, ℕ, suc, ◌+◌, ◌<◌, ◌≤◌, Bool, false, cond, ◌&&◌, ◌⊎◌, List, [], ◌∷◌, ◌++◌, length, ◌==◌, nat_le}
+use Rattle.std.specs.Prelude.{◌≡◌, ℕ, ◌+◌, ◌<◌, ◌≤◌, Bool, false, cond, ◌&&◌, ◌⊎◌, List, [], ◌∷◌, ◌++◌, length, ◌==◌, nat_le}
+use Rattle.std.specs.List.{position_or_len}
 use Rattle.fault.specs.Checks.{Check, check, Fails}
-use Rattle.text.specs.Lines.{Cut, Unbroken, spaced}
+use Rattle.text.specs.Lines.{HasFields, Unbroken, spaced}
 use Rattle.mesh.specs.declared.link.Link.{Link}
 use Rattle.mesh.specs.declared.link.LinkFault.TheVariants.{TooMany, SameEnds, PairRepeated}
 use Rattle.mesh.specs.Rules.{InRange, EndsDiffer, Joins}
@@ -23,7 +24,7 @@ use Rattle.format.specs.Content.{Content, Kept, SettingInRange, SettingKept, Lin
 -- the checks of a line of the names ws
 abbrev pub names_checks : List (List ℕ) → List ℕ → List (Check LineFault)
 names_checks ws line =
-    check Layout ((fs : List (List ℕ)) × Cut (length ws) line fs)
+    check Layout (HasFields line (length ws))
     ∷ check WrongNames ((o : List ℕ) × Order (length ws) o × (line ≡ spaced (arranged o ws)))
     ∷ []
 
@@ -34,8 +35,7 @@ field_checks takes line i (k ∷ o) = check (BadField (i + 1)) (FieldTakes takes
 
 -- the place of k in o, from 0; the length of o where k is not in it
 abbrev pub place_of : ℕ → List ℕ → ℕ
-place_of k [] = 0
-place_of k (j ∷ o) = cond (j == k) 0 (suc (place_of k o))
+place_of k o = position_or_len (λ j. j == k) o
 
 -- the line of the settings, with its columns in the order o, writes h
 pub record SettingLine (o line : List ℕ) (h : Setting) : Type 0 where
@@ -46,7 +46,7 @@ pub record SettingLine (o line : List ℕ) (h : Setting) : Type 0 where
 -- settings that the line writes` are the settings that it writes; the same of links below.
 abbrev pub setting_checks : List ℕ → List ℕ → List (Check LineFault)
 setting_checks o line =
-    check Layout ((fs : List (List ℕ)) × Cut 5 line fs)
+    check Layout (HasFields line 5)
     ∷ (field_checks setting_takes line 0 o
     ++ check (BadField (place_of 1 o + 1)) ((h : Setting) × SettingLine o line h × (h.root < h.nodes))
     ∷ [])
@@ -59,7 +59,7 @@ pub record LinkLine (o : List ℕ) (nodes : ℕ) (line : List ℕ) (l : Link) : 
 -- the checks of a link line after the links ls
 abbrev pub link_line_checks : List ℕ → ℕ → List Link → List ℕ → List (Check LineFault)
 link_line_checks o nodes ls line =
-    check Layout ((fs : List (List ℕ)) × Cut 4 line fs)
+    check Layout (HasFields line 4)
     ∷ check (BadLink TooMany) (length ls < 512)
     ∷ (field_checks (link_takes nodes) line 0 o
     ++ check (BadLink SameEnds) ((l : Link) × LinkLine o nodes line l × EndsDiffer l)
@@ -67,7 +67,7 @@ link_line_checks o nodes ls line =
     ∷ [])
 
 abbrev pub step_checks : List ℕ → List ℕ → List (Check LineFault)
-step_checks o line = check Layout ((fs : List (List ℕ)) × Cut 2 line fs) ∷ field_checks step_takes line 0 o
+step_checks o line = check Layout (HasFields line 2) ∷ field_checks step_takes line 0 o
 
 -- the first byte is a digit
 abbrev pub digit_first : List ℕ → Bool

@@ -5,8 +5,8 @@ ghost use Rattle.format.specs.Filling.{PutAt, setting_fits, link_fits, step_fits
 
 use mesh::link::Link;
 use text::number::{FieldFault, number};
+use text::word::word_of;
 use vocab::kinds::{Setting, Step};
-use vocab::words::{action_of, channel_of, detector_of, kind_of};
 
 /// What a line of a table holds, column by column.
 pub trait Row {
@@ -29,7 +29,7 @@ pub trait Row {
 }
 
 /// A link line of a mesh of so many nodes.
-#[derive(Clone, Copy)]
+#[derive(Clone, Copy, Debug, PartialEq, Eq, Hash)]
 pub struct LinkRow {
     pub nodes: u8,
     pub link: Link,
@@ -48,9 +48,9 @@ impl Row for Setting {
         match column {
             0 => self.nodes = number(text, 1, 64)? as u8,
             1 => self.root = number(text, 0, 63)? as u8,
-            2 => self.kind = kind_of(text)?,
-            3 => self.detector = detector_of(text)?,
-            4 => self.channel = channel_of(text)?,
+            2 => self.kind = word_of(text)?,
+            3 => self.detector = word_of(text)?,
+            4 => self.channel = word_of(text)?,
             _ => return Err(FieldFault),
         }
         Ok(())
@@ -90,7 +90,7 @@ impl Row for Step {
 
     fn put(&mut self, column: usize, text: &[u8]) -> Result<(), FieldFault> {
         match column {
-            0 => self.action = action_of(text)?,
+            0 => self.action = word_of(text)?,
             1 => self.pick = number(text, 0, 65535)?,
             _ => return Err(FieldFault),
         }

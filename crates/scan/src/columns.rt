@@ -22,12 +22,7 @@ pub fn titles(table: Table) -> &'static [&'static [u8]]
 pub fn find(words: &[&[u8]], text: &[u8]) -> Option<usize>
     ensures { Found (texts words.now) text.now result }
 {
-    for (i, w) in words.iter().enumerate() {
-        if *w == text {
-            return Some(i);
-        }
-    }
-    None
+    words.iter().position(|word| *word == text)
 }
 
 /// The place of a column in an order, from 0.
@@ -35,10 +30,8 @@ pub fn place(order: &[usize], column: usize) -> usize
     ensures within { result ≤ length order.now }
     ensures found { result ≡ place_of column order.now }
 {
-    for (i, k) in order.iter().enumerate() {
-        if *k == column {
-            return i;
-        }
-    }
-    order.len()
+    order
+        .iter()
+        .position(|k| *k == column)
+        .unwrap_or(order.len())
 }

@@ -5,6 +5,7 @@ ghost use Rattle.format.specs.Verdict.{digit_first};
 ghost use Rattle.scan.specs.Placed.{placed_field, placed_line};
 
 use text::cut::first_line;
+use text::line::Line;
 use text::number::FieldFault;
 use vocab::faults::{LineFault, ReadFault};
 
@@ -12,33 +13,24 @@ use vocab::faults::{LineFault, ReadFault};
 pub fn at_field<T>(field: usize, r: Result<T, FieldFault>) -> Result<T, LineFault>
     ensures { result ≡ placed_field field r }
 {
-    match r {
-        Ok(x) => Ok(x),
-        Err(_) => Err(LineFault::BadField(field)),
-    }
+    r.map_err(|_| LineFault::BadField(field))
 }
 
 /// What a line gave, its fault with the line's number.
 pub fn at_line<T>(line: usize, r: Result<T, LineFault>) -> Result<T, ReadFault>
     ensures { result ≡ placed_line line r }
 {
-    match r {
-        Ok(x) => Ok(x),
-        Err(e) => Err(ReadFault::Line(line, e)),
-    }
+    r.map_err(|fault| ReadFault::Line(line, fault))
 }
 
-/// The next line, which has this number and must come: how many fields it has, the line and what follows it.
-pub fn next_line(number: usize, rest: &[u8]) -> Result<(usize, &[u8], &[u8]), ReadFault>
+/// The next line, which has this number and must come, and what follows it.
+pub fn next_line(number: usize, rest: &[u8]) -> Result<(Line<'_>, &[u8]), ReadFault>
     ensures { NextLine number rest.now result }
 {
     if rest.is_empty() {
         return Err(ReadFault::Missing(number));
     }
-    let Some((count, line, after)) = first_line(rest) else {
-        return Err(ReadFault::Line(number, LineFault::Layout));
-    };
-    Ok((count, line, after))
+    first_line(rest).ok_or(ReadFault::Line(number, LineFault::Layout))
 }
 
 /// Whether a line in the table of links is a link line: its first byte decides.
@@ -47,6 +39,6 @@ pub fn is_link_line(line: &[u8]) -> bool
 {
     match line {
         [] => false,
-        [first, _rest @ ..] => b'0' <= *first && *first <= b'9',
+        [first, _rest @ ..] => first.is_ascii_digit(),
     }
 }

@@ -1,9 +1,13 @@
-use Rattle.std.proofs.Common.{arith}
-use Rattle.format.proofs.Orders.{place_found, place_none}
+use Rattle.std.proofs.Common.{◌≡◌, ◌==◌, ℕ, ◌<◌, ◌≤◌, get_or, length, sym, rules}
+use Rattle.std.proofs.lemmas.Bool.{ne_eqb, eq-eqb}
+use Rattle.std.proofs.lemmas.List.Sums.{position_or_len_is}
 use Rattle.scan.proofs.columns.place.Goals as goal
 
-pub returns-then-k-column : goal.returns-then-k-column
-returns-then-k-column c = record { within = omega arith; found = place_found c.args.column c.args.order.now c.loop-i.i c.loop-i-test.true c.loop-i.invariant c.if-k-column.true }
-
-pub returns : goal.returns
-returns c = record { within = omega arith; found = place_none c.args.column c.args.order.now (λ j l. c.loop-i.invariant j (omega arith)) }
+pub returns-clause-found : goal.returns-clause-found
+returns-clause-found c =
+    let order = c.args.order.now in
+    let i = c.unwrap_or.result in
+    let within : i ≤ length order = search rules in
+    let none : (j : ℕ) → j < i → get_or order j 0 ≡ c.args.column → ⊥ = search rules in
+    let here : i < length order → get_or order i 0 ≡ c.args.column = search rules in
+    sym (position_or_len_is (λ j. j == c.args.column) order i 0 within (λ k l. ne_eqb _ _ (none k l)) (λ l. eq-eqb _ _ (here l)))

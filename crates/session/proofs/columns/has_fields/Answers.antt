@@ -1,5 +1,5 @@
 use Rattle.std.proofs.Common.{length, sym, refl, ap, ◌∙◌}
-use Rattle.text.proofs.Cuts.{fields_same}
+use Rattle.text.specs.FieldsOnce.{fields_same}
 use Rattle.session.proofs.columns.has_fields.Goals as goal
 
 pub returns-then-count-n : goal.returns-then-count-n

@@ -4,7 +4,7 @@ use Rattle.std.proofs.lemmas.List.Elements.{contains_decides}
 use Rattle.std.proofs.lemmas.List.{length-map}
 use Rattle.std.proofs.lemmas.Bool.{both_ways}
 use Rattle.text.specs.Lines.{spaced}
-use Rattle.text.proofs.Cuts.{fields_same}
+use Rattle.text.specs.FieldsOnce.{fields_same}
 use Rattle.format.specs.Columns.{texts, Order, arranged}
 use Rattle.format.proofs.Fills.{next_field}
 use Rattle.format.proofs.Orders.{Sofar, NoOrder, start, unknown, again, one_more, done, cut_of}
