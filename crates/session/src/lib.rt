@@ -3,5 +3,6 @@
 
 mod columns;
 mod lines;
+mod order;
 pub mod reader;
 pub mod session;

@@ -8,10 +8,12 @@ ghost use Rattle.session.specs.Seen.{content, judgement, Answers};
 
 use crate::columns::names_line;
 use crate::lines::{link_line, setting_line, step_line};
+use crate::order::Columns;
 use crate::session::{Room, Session};
 use mesh::mesh::{LinkRoom, Mesh};
 use scan::lines::{at_line, is_link_line, next_line};
 use std::alloc::{AllocError, Global};
+use text::line::Line;
 use vocab::faults::{ReadError, ReadFault};
 use vocab::kinds::{Setting, Step, Table};
 
@@ -19,77 +21,67 @@ use vocab::kinds::{Setting, Step, Table};
 pub const MAX_BYTES: usize = 65536;
 
 // The settings, and what follows their table.
-fn setting_table<'a>(
-    columns: &mut Vec<usize>,
-    bytes: &'a [u8],
-) -> Result<(Setting, &'a [u8]), ReadFault>
-    requires room { 5 ≤ vec_capacity columns.old }
-    requires short { length bytes.now ≤ 65536 }
-    ensures room { vec_capacity columns.new ≡ vec_capacity columns.old }
-    ensures reads { MatchResult result (λ x. ((o : List ℕ) × UpTo bytes.now (at_link_names o x.0) x.1.now)) (Refuses bytes.now) }
+fn setting_table(bytes: &[u8]) -> Result<(Setting, &[u8]), ReadFault>
+    requires { length bytes.now ≤ 65536 }
+    ensures { MatchResult result (λ x. ((o : List ℕ) × UpTo bytes.now (at_link_names o x.0) x.1.now)) (Refuses bytes.now) }
 {
-    let (width, names, values) = next_line(1, bytes)?;
-    at_line(1, names_line(Table::Settings, width, names, columns))?;
-    let (count, line, rest) = next_line(2, values)?;
-    let setting = at_line(2, setting_line(columns, count, line))?;
+    let (names, values) = next_line(1, bytes)?;
+    let columns = at_line(1, names_line(Table::Settings, names))?;
+    let (line, rest) = next_line(2, values)?;
+    let setting = at_line(2, setting_line(&columns, line))?;
     Ok((setting, rest))
 }
 
-// Reads the names of the links, and answers what follows them.
-fn link_names<'a>(columns: &mut Vec<usize>, rest: &'a [u8]) -> Result<&'a [u8], ReadFault>
-    requires { 5 ≤ vec_capacity columns.old }
-    ensures room { vec_capacity columns.new ≡ vec_capacity columns.old }
-    ensures order { OnOk result (Order 4 columns.new.items) }
-    ensures reads { MatchResult result (λ x. LinkNamesRead rest.now columns.new.items x.now) (LinkNamesRefused rest.now) }
+// The order of the columns of the links, and what follows the line of their names.
+fn link_names(rest: &[u8]) -> Result<(Columns<4>, &[u8]), ReadFault>
+    ensures { MatchResult result (λ x. LinkNamesRead rest.now x.0.order x.1.now) (LinkNamesRefused rest.now) }
 {
-    let (count, line, after) = next_line(3, rest)?;
-    at_line(3, names_line(Table::Links, count, line, columns))?;
-    Ok(after)
+    let (line, after) = next_line(3, rest)?;
+    let columns = at_line(3, names_line(Table::Links, line))?;
+    Ok((columns, after))
 }
 
-// Reads the link lines into the mesh, and answers the line after them, with its number of fields, and what follows it.
+// Reads the link lines into the mesh, and answers the line after them and what follows it.
 fn link_table<'a>(
-    order: &[usize],
+    columns: &Columns<4>,
     mesh: &mut Mesh,
     text: &'a [u8],
-) -> Result<(usize, &'a [u8], &'a [u8]), ReadFault>
-    requires order { Order 4 order.now }
-    requires none { mesh.old.links.items ≡ [] }
+) -> Result<(Line<'a>, &'a [u8]), ReadFault>
+    requires { mesh.old.links.items ≡ [] }
     ensures nodes { mesh.new.nodes ≡ mesh.old.nodes }
     ensures root { mesh.new.root ≡ mesh.old.root }
-    ensures reads { MatchResult result (λ x. LinksRead order.now mesh.old.nodes text.now mesh.new.links.items x.0 x.1.now x.2.now) (LinksRefused order.now mesh.old.nodes text.now) }
+    ensures reads { MatchResult result (λ x. LinksRead columns.now.order mesh.old.nodes text.now mesh.new.links.items x.0.text.now x.1.now) (LinksRefused columns.now.order mesh.old.nodes text.now) }
 {
     let mut rest = text;
     loop {
         let number = 4 + mesh.links.len();
-        let (count, line, after) = next_line(number, rest)?;
-        if !is_link_line(line) {
-            return Ok((count, line, after));
+        let (line, after) = next_line(number, rest)?;
+        if !is_link_line(line.text) {
+            return Ok((line, after));
         }
-        at_line(number, link_line(mesh, order, count, line))?;
+        at_line(number, link_line(mesh, columns, line))?;
         rest = after;
     }
 }
 
 // Reads the step lines, the first of which has this number.
 fn step_table(
-    order: &[usize],
+    columns: &Columns<2>,
     first: usize,
     steps: &mut Vec<Step>,
     text: &[u8],
 ) -> Result<(), ReadFault>
-    requires order { Order 2 order.now }
     requires near { first ≤ 65536 }
     requires none { vec_len steps.old ≡ 0 }
     requires short { length text.now ≤ 65536 }
     requires room { 16384 ≤ vec_capacity steps.old }
-    ensures reads { MatchResult result (λ _. StepsRead order.now text.now steps.new.items) (StepsRefused order.now first text.now) }
+    ensures reads { MatchResult result (λ _. StepsRead columns.now.order text.now steps.new.items) (StepsRefused columns.now.order first text.now) }
 {
     let mut rest = text;
     while !rest.is_empty() {
         let number = first + steps.len();
-        let (count, line, after) = next_line(number, rest)?;
-        let step = at_line(number, step_line(order, count, line))?;
+        let (line, after) = next_line(number, rest)?;
+        let step = at_line(number, step_line(columns, line))?;
         steps.push_reserved(step);
         rest = after;
     }
@@ -99,22 +91,14 @@ fn step_table(
 // As many steps as a session file can hold: a line of two fields has four bytes at the least.
 const MAX_STEPS: usize = 16384;
 
-// The most columns a table has.
-const MAX_COLUMNS: usize = 5;
-
 impl Room {
     /// Reserves memory for whatever a session file may hold. The reader itself asks for none.
     pub fn reserve(heap: Global) -> Result<Room, AllocError>
-        ensures { IfOk result (λ room. (room.steps.items ≡ []) × (16384 ≤ vec_capacity room.steps) × (5 ≤ vec_capacity room.columns)) }
+        ensures { IfOk result (λ room. (room.steps.items ≡ []) × (16384 ≤ vec_capacity room.steps)) }
     {
         let links = LinkRoom::reserve(heap)?;
         let steps = Vec::with_capacity(heap, MAX_STEPS)?;
-        let columns = Vec::with_capacity(heap, MAX_COLUMNS)?;
-        Ok(Room {
-            links,
-            steps,
-            columns,
-        })
+        Ok(Room { links, steps })
     }
 
     /// Reads a session file: the session that it writes, or the first check that it fails.
@@ -126,21 +110,17 @@ impl Room {
         if bytes.len() > MAX_BYTES {
             return Err(ReadFault::TooLong);
         }
-        let Room {
-            links,
-            mut steps,
-            mut columns,
-        } = self;
-        let (setting, names_text) = setting_table(&mut columns, bytes)?;
-        let links_text = link_names(&mut columns, names_text)?;
+        let Room { links, mut steps } = self;
+        let (setting, names_text) = setting_table(bytes)?;
+        let (columns, links_text) = link_names(names_text)?;
         let mut mesh = match Mesh::open(links, setting.nodes, setting.root) {
             Ok(mesh) => mesh,
             Err(_) => unreachable(),
         };
-        let (count, line, steps_text) = link_table(&columns, &mut mesh, links_text)?;
+        let (names, steps_text) = link_table(&columns, &mut mesh, links_text)?;
         let number = 4 + mesh.links.len();
-        at_line(number, names_line(Table::Steps, count, line, &mut columns))?;
-        step_table(&columns, number + 1, &mut steps, steps_text)?;
+        let step_columns = at_line(number, names_line(Table::Steps, names))?;
+        step_table(&step_columns, number + 1, &mut steps, steps_text)?;
         Ok(Session {
             mesh,
             kind: setting.kind,

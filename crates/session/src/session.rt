@@ -24,8 +24,6 @@ pub struct Session {
 pub struct Room {
     pub links: LinkRoom,
     pub steps: Vec<Step>,
-    pub columns: Vec<usize>,
     ghost empty: { vec_len steps ≡ 0 },
     ghost enough: { 16384 ≤ vec_capacity steps },
-    ghost wide: { 5 ≤ vec_capacity columns },
 }

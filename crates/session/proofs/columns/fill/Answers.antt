@@ -1,4 +1,4 @@
-use Rattle.std.proofs.Common.{◌≡◌, ◌+◌, [], length, get_or, drop, sym, refl, ap, ◌∙◌, subst, arith}
+use Rattle.std.proofs.Common.{◌≡◌, ◌+◌, [], get_or, drop, sym, refl, ap, ◌∙◌, subst, arith}
 use Rattle.std.proofs.lemmas.Result.{err_from_is_err_and}
 use Rattle.text.specs.Lines.{spaced}
 use Rattle.format.proofs.Fills.{next_field, start, one_more, refused, done}
@@ -11,17 +11,17 @@ pub loop-i-init : goal.loop-i-init
 loop-i-init g c =
     let m = g.R.Row in
     let f = c.requires.cut in
-    (refl, (f.0, f.1, f.1.0.is, start (m.takes (m.base c.args.row.now)) (length (m.values c.args.row.now)) c.args.order.now f.0 (m.values c.args.row.now) (m.fits c.args.row.now) refl))
+    (refl, (f.0, f.1, f.1.0.is, start (m.takes (m.base c.args.row.now)) g.row.N c.args.columns.now.order f.0 (m.values c.args.row.now) (m.fits c.args.row.now) c.requires.many))
 
 -- the fields, and what the loop cut off
 cut : (g : given.Over) (c : After-at_field g) → (c.first_field.result.0.now ≡ get_or c.loop-i.invariant.1.0 c.loop-i.i []) × (c.first_field.result.1.now ≡ spaced (drop (c.loop-i.i + 1) c.loop-i.invariant.1.0))
 cut g c =
     let i = c.loop-i.invariant.1 in
-    next_field c.args.line.now i.0 c.loop-i.i c.loop-i.rest.now c.first_field.result.0.now c.first_field.result.1.now i.1.0 (omega (arith, i.1.1, c.loop-i-test.true)) i.2 c.first_field.ensures
+    next_field c.args.line.text.now i.0 c.loop-i.i c.loop-i.rest.now c.first_field.result.0.now c.first_field.result.1.now i.1.0 (omega (arith, i.1.1, c.args.columns.now.once.long, c.loop-i-test.true)) i.2 c.first_field.ensures
 
 -- what `put` promised, at the base that the row had
-takes : (g : given.Over) (c : After-at_field g) → g.R.Row.takes (g.R.Row.base c.loop-i.row) (get_or c.args.order.now c.loop-i.i 0) c.first_field.result.0.now ≡ g.R.Row.takes (g.R.Row.base c.args.row.now) (get_or c.args.order.now c.loop-i.i 0) c.first_field.result.0.now
-takes g c = ap (λ b. g.R.Row.takes b (get_or c.args.order.now c.loop-i.i 0) c.first_field.result.0.now) c.loop-i.invariant.0
+takes : (g : given.Over) (c : After-at_field g) → g.R.Row.takes (g.R.Row.base c.loop-i.row) (get_or c.args.columns.now.order c.loop-i.i 0) c.first_field.result.0.now ≡ g.R.Row.takes (g.R.Row.base c.args.row.now) (get_or c.args.columns.now.order c.loop-i.i 0) c.first_field.result.0.now
+takes g c = ap (λ b. g.R.Row.takes b (get_or c.args.columns.now.order c.loop-i.i 0) c.first_field.result.0.now) c.loop-i.invariant.0
 
 pub returns-in_err-at_field : goal.returns-in_err-at_field
 returns-in_err-at_field g c =
@@ -32,7 +32,7 @@ returns-in_err-at_field g c =
     let f = field_err (c.loop-i.i + 1) c.put.result c.at_field.result c.in_err-at_field.field-0.0 _ _ c.at_field.ensures c.in_err-at_field.was c.put.ensures.puts in
     record {
       base = c.put.ensures.base ∙ c.loop-i.invariant.0;
-      fills = rw (p.1, p.2, f.1) (refused (m.takes (m.base c.args.row.now)) (length (m.values c.args.row.now)) c.args.order.now c.requires.order c.args.line.now i.0 i.1.0 i.1.1 c.loop-i.i (m.values c.loop-i.row) (m.fits c.loop-i.row) i.3 c.loop-i-test.true c.first_field.result.0.now (cut g a).0 (λ t. f.0 (subst (λ T. T) (sym (takes g a)) t)));
+      fills = rw (p.1, p.2, f.1) (refused (m.takes (m.base c.args.row.now)) g.row.N c.args.columns.now.order c.args.columns.now.once c.args.line.text.now i.0 i.1.0 (i.1.1 ∙ sym c.args.columns.now.once.long) c.loop-i.i (m.values c.loop-i.row) (m.fits c.loop-i.row) i.3 (omega (arith, c.args.columns.now.once.long, c.loop-i-test.true)) c.first_field.result.0.now (cut g a).0 (λ t. f.0 (subst (λ T. T) (sym (takes g a)) t)));
     }
 
 pub loop-i-preserved : goal.loop-i-preserved
@@ -46,7 +46,7 @@ loop-i-preserved g c =
         i.0,
         i.1,
         (cut g a).1,
-        one_more (m.takes (m.base c.args.row.now)) (length (m.values c.args.row.now)) c.args.order.now c.requires.order c.args.line.now i.0 i.1.0 i.1.1 c.loop-i.i (m.values c.loop-i.row) (m.fits c.loop-i.row) i.3 c.loop-i-test.true c.first_field.result.0.now (cut g a).0 (subst (λ T. T) (takes g a) f.0) (m.values c.put.new.self) (m.fits c.put.new.self) f.1,
+        one_more (m.takes (m.base c.args.row.now)) g.row.N c.args.columns.now.order c.args.columns.now.once c.args.line.text.now i.0 i.1.0 (i.1.1 ∙ sym c.args.columns.now.once.long) c.loop-i.i (m.values c.loop-i.row) (m.fits c.loop-i.row) i.3 (omega (arith, c.args.columns.now.once.long, c.loop-i-test.true)) c.first_field.result.0.now (cut g a).0 (subst (λ T. T) (takes g a) f.0) (m.values c.put.new.self) (m.fits c.put.new.self) f.1,
       ),
     )
 
@@ -56,5 +56,5 @@ returns g c =
     let i = c.loop-i.invariant.1 in
     record {
       base = c.loop-i.invariant.0;
-      fills = done (m.takes (m.base c.args.row.now)) (length (m.values c.args.row.now)) c.args.order.now c.requires.order c.args.line.now i.0 i.1.0 i.1.1 c.loop-i.i (m.values c.loop-i.row) (m.fits c.loop-i.row) i.3 c.loop-i-test.false;
+      fills = done (m.takes (m.base c.args.row.now)) g.row.N c.args.columns.now.order c.args.columns.now.once c.args.line.text.now i.0 i.1.0 (i.1.1 ∙ sym c.args.columns.now.once.long) c.loop-i.i (m.values c.loop-i.row) (m.fits c.loop-i.row) i.3 (omega (arith, c.args.columns.now.once.long, c.loop-i-test.false));
     }

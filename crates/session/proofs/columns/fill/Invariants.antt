@@ -1,4 +1,4 @@
-use Rattle.std.proofs.Common.{◌≡◌, ℕ, List, length, drop}
+use Rattle.std.proofs.Common.{◌≡◌, ℕ, List, drop}
 use Rattle.text.specs.Lines.{Cut, spaced}
 use Rattle.format.proofs.Fills.{Sofar}
 use Rattle.session.proofs.columns.fill.Given as goal
@@ -8,6 +8,6 @@ invariant-loop-i g l =
     let m = g.R.Row in
     (m.base l.row ≡ m.base l.initial.row)
     × ((fs : List (List ℕ))
-    × Cut (length l.order) l.line fs
+    × Cut g.row.N l.line.text.now fs
     × (l.rest ≡ spaced (drop l.i fs))
-    × Sofar (m.takes (m.base l.initial.row)) (length (m.values l.initial.row)) l.order fs l.i (m.values l.row) (m.fits l.row))
+    × Sofar (m.takes (m.base l.initial.row)) g.row.N l.columns.order fs l.i (m.values l.row) (m.fits l.row))

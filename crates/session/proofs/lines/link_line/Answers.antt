@@ -1,21 +1,17 @@
-use Rattle.std.proofs.Common.{◌<◌, length, vec_items, sym, refl, ◌∙◌, subst, inr, arith}
+use Rattle.std.proofs.Common.{◌<◌, length, vec_items, sym, refl, ◌∙◌, inr, arith}
 use Rattle.std.proofs.lemmas.Result.{err_from_is_err_and}
 use Rattle.std.proofs.lemmas.Bool.{leb-false}
 use Rattle.fault.proofs.Ordered.{fails_first}
-use Rattle.text.specs.Lines.{Cut}
 use Rattle.format.specs.Tables.{link_takes}
 use Rattle.format.specs.Verdict.{LinkLine, field_checks}
-use Rattle.format.proofs.Judging.{HasCut, link_fails}
+use Rattle.format.proofs.Judging.{link_fails}
 use Rattle.session.proofs.lines.link_line.Goals as goal
 use Rattle.session.proofs.lines.link_line.Goals.{After-is_full, After-fill, In_ok-fill}
-
-cut : (c : After-fill) → HasCut 4 c.args.line.now
-cut c = let f = c.in_ok-has_fields.ensures in (f.0, subst (λ n. Cut n c.args.line.now f.0) c.requires.order.long f.1)
 
 room : (c : After-fill) → length (vec_items c.args.mesh.now.links) < 512
 room c = leb-false 512 (length (vec_items c.args.mesh.now.links)) (sym c.is_full.ensures ∙ c.if-is_full.false)
 
-written : (c : In_ok-fill) → LinkLine c.args.order.now c.args.mesh.now.nodes c.args.line.now c.fill.new.row.link
+written : (c : In_ok-fill) → LinkLine c.args.columns.now.order c.args.mesh.now.nodes c.args.line.text.now c.fill.new.row.link
 written c =
     let f = c.in_ok-fill.ensures.fills in
     let n = c.in_ok-fill.ensures.base in
@@ -23,9 +19,9 @@ written c =
     record {
       is = f.is;
       range = (
-        (omega (arith, f.fit 0 (omega (arith, c.requires.order.long)), n, m.rooted), omega (arith, f.fit 1 (omega (arith, c.requires.order.long)), n, m.rooted)),
-        f.fit 2 (omega (arith, c.requires.order.long)),
-        f.fit 3 (omega (arith, c.requires.order.long)),
+        (omega (arith, f.fit 0 (omega (arith, c.args.columns.now.once.long)), n, m.rooted), omega (arith, f.fit 1 (omega (arith, c.args.columns.now.once.long)), n, m.rooted)),
+        f.fit 2 (omega (arith, c.args.columns.now.once.long)),
+        f.fit 3 (omega (arith, c.args.columns.now.once.long)),
       );
     }
 
@@ -36,7 +32,7 @@ returns-in_err-fill c =
     record {
       nodes = refl;
       root = refl;
-      joins = rw (p.1, p.2) (inr (cut a, inr (room a, fails_first (field_checks (link_takes c.args.mesh.now.nodes) c.args.line.now 0 c.args.order.now) _ _ c.in_err-fill.ensures.fills)), refl);
+      joins = rw (p.1, p.2) (inr (c.in_ok-has_fields.ensures, inr (room a, fails_first (field_checks (link_takes c.args.mesh.now.nodes) c.args.line.text.now 0 c.args.columns.now.order) _ _ c.in_err-fill.ensures.fills)), refl);
     }
 
 pub returns-in_err-join : goal.returns-in_err-join
@@ -48,7 +44,7 @@ returns-in_err-join c =
     record {
       nodes = e.nodes;
       root = e.root;
-      joins = rw (p.1, p.2) (link_fails c.args.order.now c.args.mesh.now.nodes (vec_items c.args.mesh.now.links) c.args.line.now c.fill.new.row.link c.in_err-join.field-0.0 c.requires.order c.args.mesh.now.many (cut a) (room a) c.in_ok-fill.ensures.fills.passes (written b) e.links.0, e.links.1);
+      joins = rw (p.1, p.2) (link_fails c.args.columns.now.order c.args.mesh.now.nodes (vec_items c.args.mesh.now.links) c.args.line.text.now c.fill.new.row.link c.in_err-join.field-0.0 c.args.columns.now.once c.args.mesh.now.many c.in_ok-has_fields.ensures (room a) c.in_ok-fill.ensures.fills.passes (written b) e.links.0, e.links.1);
     }
 
 pub returns : goal.returns

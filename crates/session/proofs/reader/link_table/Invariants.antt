@@ -3,11 +3,11 @@ use Rattle.vocab.specs.declared.kinds.Setting.{Setting}
 use Rattle.format.specs.Verdict.{UpTo, at_links}
 use Rattle.session.proofs.reader.link_table.Given as goal
 
-abbrev pub invariant-loop-count : goal.invariant-loop-count
-invariant-loop-count l =
+abbrev pub invariant-loop-line : goal.invariant-loop-line
+invariant-loop-line l =
     (l.mesh.nodes ≡ l.initial.mesh.nodes)
     × (l.mesh.root ≡ l.initial.mesh.root)
-    × ((bytes o : List ℕ) (h : Setting) → h.nodes ≡ l.initial.mesh.nodes → UpTo bytes (at_links o h l.order []) l.text → UpTo bytes (at_links o h l.order (vec_items l.mesh.links)) l.rest)
+    × ((bytes o : List ℕ) (h : Setting) → h.nodes ≡ l.initial.mesh.nodes → UpTo bytes (at_links o h l.columns.order []) l.text → UpTo bytes (at_links o h l.columns.order (vec_items l.mesh.links)) l.rest)
 
-abbrev pub decreases-loop-count : goal.decreases-loop-count
-decreases-loop-count l = length l.rest
+abbrev pub decreases-loop-line : goal.decreases-loop-line
+decreases-loop-line l = length l.rest

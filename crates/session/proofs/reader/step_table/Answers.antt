@@ -18,50 +18,50 @@ pub loop-rest-init : goal.loop-rest-init
 loop-rest-init c = (
   omega (arith, c.requires.none, c.requires.short),
   c.requires.room,
-  λ bytes o h p ls u. subst (λ ss. UpTo bytes (at_steps o h p ls c.args.order.now ss) c.args.text.now) (sym (nil_from_length (vec_items c.args.steps.now) (omega (arith, c.args.steps.now.ok.0, c.requires.none)))) u,
+  λ bytes o h p ls u. subst (λ ss. UpTo bytes (at_steps o h p ls c.args.columns.now.order ss) c.args.text.now) (sym (nil_from_length (vec_items c.args.steps.now) (omega (arith, c.args.steps.now.ok.0, c.requires.none)))) u,
 )
 
-pub returns-in_err-count : goal.returns-in_err-count
-returns-in_err-count c =
+pub returns-in_err-line : goal.returns-in_err-line
+returns-in_err-line c =
     let e = err_from_is_err_and c.from_residual.result c.from_residual.ensures.1 in
     let some : 0 < length c.loop-rest.rest.now = omega (arith, eqb-false _ _ (sym c.loop-rest-test.ensures)) in
     record {
       reads = rw (e.1, e.2) (λ bytes o h p ls n u.
-          refuse_next bytes (at_steps o h p ls c.args.order.now (vec_items c.loop-rest.steps)) c.loop-rest.rest.now (c.args.first + c.len.result) c.in_err-count.field-0.0
-          (c.loop-rest.invariant.2 bytes o h p ls u) (inr some) (omega (arith, n, c.len.ensures, c.loop-rest.steps.ok.0)) c.in_err-count.ensures);
+          refuse_next bytes (at_steps o h p ls c.args.columns.now.order (vec_items c.loop-rest.steps)) c.loop-rest.rest.now (c.args.first + c.len.result) c.in_err-line.field-0.0
+          (c.loop-rest.invariant.2 bytes o h p ls u) (inr some) (omega (arith, n, c.len.ensures, c.loop-rest.steps.ok.0)) c.in_err-line.ensures);
     }
 
 pub returns-in_err-step : goal.returns-in_err-step
 returns-in_err-step c =
     let e = err_from_is_err_and c.from_residual-in_err-step.result c.from_residual-in_err-step.ensures.1 in
-    let line = c.in_ok-count.line.now in
-    let l = line_err (c.args.first + c.len.result) c.step_line.result c.at_line.result c.in_err-step.field-0.0 _ (Fails (step_checks c.args.order.now line)) c.at_line.ensures c.in_err-step.was c.step_line.ensures in
-    let w = c.in_ok-count.ensures in
+    let line = c.in_ok-line.line.text.now in
+    let l = line_err (c.args.first + c.len.result) c.step_line.result c.at_line.result c.in_err-step.field-0.0 _ (Fails (step_checks c.args.columns.now.order line)) c.at_line.ensures c.in_err-step.was c.step_line.ensures in
+    let w = c.in_ok-line.ensures in
     record {
       reads = rw (e.1, e.2) (λ bytes o h p ls n u.
-          refuse bytes (at_steps o h p ls c.args.order.now (vec_items c.loop-rest.steps)) c.loop-rest.rest.now line c.in_ok-count.after.now l.0 c.in_err-step.field-0.0
-          (c.loop-rest.invariant.2 bytes o h p ls u) w.0 w.1.0 w.1.1.0 l.1
+          refuse bytes (at_steps o h p ls c.args.columns.now.order (vec_items c.loop-rest.steps)) c.loop-rest.rest.now line c.in_ok-line.after.now l.0 c.in_err-step.field-0.0
+          (c.loop-rest.invariant.2 bytes o h p ls u) w c.in_ok-line.line.cut.0 c.in_ok-line.line.cut.1.0 l.1
           (l.2 ∙ ap (λ x. Line x l.0) (let z : c.args.first + c.len.result ≡ 5 + length ls + length (vec_items c.loop-rest.steps) = omega (arith, n, c.len.ensures, c.loop-rest.steps.ok.0) in z)));
     }
 
 pub loop-rest-smaller : goal.loop-rest-smaller
-loop-rest-smaller c = shorter c.loop-rest.rest.now c.in_ok-count.line.now c.in_ok-count.after.now c.in_ok-count.ensures.0
+loop-rest-smaller c = shorter c.loop-rest.rest.now c.in_ok-line.line.text.now c.in_ok-line.after.now c.in_ok-line.ensures
 
 pub returns : goal.returns
 returns c = record {
   reads = λ bytes o h p ls u.
-      subst (UpTo bytes (at_steps o h p ls c.args.order.now (vec_items c.loop-rest.steps))) (nil_from_length c.loop-rest.rest.now (true-eqb _ 0 c.loop-rest-test.ensures)) (c.loop-rest.invariant.2 bytes o h p ls u);
+      subst (UpTo bytes (at_steps o h p ls c.args.columns.now.order (vec_items c.loop-rest.steps))) (nil_from_length c.loop-rest.rest.now (true-eqb _ 0 c.loop-rest-test.ensures)) (c.loop-rest.invariant.2 bytes o h p ls u);
 }
 
 pub loop-rest-preserved : goal.loop-rest-preserved
 loop-rest-preserved c =
-    let line = c.in_ok-count.line.now in
-    let after = c.in_ok-count.after.now in
-    let order = c.args.order.now in
-    let is = c.in_ok-count.ensures.0 in
+    let line = c.in_ok-line.line.text.now in
+    let after = c.in_ok-line.after.now in
+    let order = c.args.columns.now.order in
+    let is = c.in_ok-line.ensures in
     let s = c.in_ok-step.step in
     let g = line_ok (c.args.first + c.len.result) c.step_line.result c.at_line.result s (λ t. (t.pick ≤ 65535) × (line ≡ spaced (arranged order (step_values t)))) _ c.at_line.ensures c.in_ok-step.was c.step_line.ensures in
-    let cut = cut_of order (step_values s) line c.requires.order (omega arith) (step_fields s g.0) g.1 in
+    let cut = cut_of order (step_values s) line c.args.columns.now.once (omega arith) (step_fields s g.0) g.1 in
     let four = four_bytes c.loop-rest.rest.now line after _ is cut.0 cut.1 in (
       omega (arith, four, c.push_reserved.ensures.len, c.loop-rest.invariant.0),
       omega (arith, c.push_reserved.ensures.capacity, c.loop-rest.invariant.1),

@@ -8,7 +8,7 @@ abbrev pub invariant-loop-rest : goal.invariant-loop-rest
 invariant-loop-rest l =
     (4 * vec_len l.steps + length l.rest ≤ 65536)
     × (16384 ≤ vec_capacity l.steps)
-    × ((bytes o : List ℕ) (h : Setting) (p : List ℕ) (ls : List Link) → UpTo bytes (at_steps o h p ls l.order []) l.text → UpTo bytes (at_steps o h p ls l.order (vec_items l.steps)) l.rest)
+    × ((bytes o : List ℕ) (h : Setting) (p : List ℕ) (ls : List Link) → UpTo bytes (at_steps o h p ls l.columns.order []) l.text → UpTo bytes (at_steps o h p ls l.columns.order (vec_items l.steps)) l.rest)
 
 abbrev pub decreases-loop-rest : goal.decreases-loop-rest
 decreases-loop-rest l = length l.rest

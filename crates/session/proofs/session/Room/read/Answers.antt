@@ -6,7 +6,7 @@ use Rattle.fault.specs.Checks.{Fails}
 use Rattle.text.specs.Lines.{spaced}
 use Rattle.vocab.specs.declared.kinds.Table.TheVariants.{Steps}
 use Rattle.vocab.specs.declared.faults.ReadFault.TheVariants.{Line}
-use Rattle.format.specs.Columns.{Order, arranged}
+use Rattle.format.specs.Columns.{arranged}
 use Rattle.vocab.specs.Words.{names}
 use Rattle.format.specs.Content.{standard}
 use Rattle.format.specs.Verdict.{UpTo, Accepts, at_links, at_steps, before, names_checks, accepted, refused}
@@ -15,129 +15,124 @@ use Rattle.format.proofs.Lengths.{standard_length}
 use Rattle.format.proofs.Single.{judged}
 use Rattle.format.proofs.Walks.{refuse, to_steps, names_line_at}
 use Rattle.session.proofs.session.Room.read.Goals as goal
-use Rattle.session.proofs.session.Room.read.Goals.{In_ok-setting, In_ok-links_text, In-Ok, In_ok-count, In_ok-at_line, In_ok-step_table}
+use Rattle.session.proofs.session.Room.read.Goals.{In_ok-setting, In_ok-columns, In-Ok, In_ok-names, In_ok-step_columns, In_ok-step_table}
 
 pub returns-in_err-setting : goal.returns-in_err-setting
 returns-in_err-setting c =
     let p = err_from_is_err_and c.from_residual.result c.from_residual.ensures.1 in
-    record { judged = rw (p.1, p.2) (judged c.args.bytes.now (refused c.in_err-setting.field-0.0) c.in_err-setting.ensures.reads); sized = rw p.1 tt }
+    record { judged = rw (p.1, p.2) (judged c.args.bytes.now (refused c.in_err-setting.field-0.0) c.in_err-setting.ensures); sized = rw p.1 tt }
 
-pub returns-in_err-links_text : goal.returns-in_err-links_text
-returns-in_err-links_text c =
-    let p = err_from_is_err_and c.from_residual-in_err-links_text.result c.from_residual-in_err-links_text.ensures.1 in
-    let u = c.in_ok-setting.ensures.reads in
-    record { judged = rw (p.1, p.2) (judged c.args.bytes.now (refused c.in_err-links_text.field-0.0) (c.in_err-links_text.ensures.reads c.args.bytes.now u.0 c.in_ok-setting.setting u.1)); sized = rw p.1 tt }
+pub returns-in_err-columns : goal.returns-in_err-columns
+returns-in_err-columns c =
+    let p = err_from_is_err_and c.from_residual-in_err-columns.result c.from_residual-in_err-columns.ensures.1 in
+    let u = c.in_ok-setting.ensures in
+    record { judged = rw (p.1, p.2) (judged c.args.bytes.now (refused c.in_err-columns.field-0.0) (c.in_err-columns.ensures c.args.bytes.now u.0 c.in_ok-setting.setting u.1)); sized = rw p.1 tt }
 
 -- the file is in order up to the first link
-up_links : (c : In-Ok) → UpTo c.args.bytes.now (at_links c.in_ok-setting.ensures.reads.0 c.in_ok-setting.setting (vec_items c.link_names.new.columns) []) c.in_ok-links_text.links_text.now
+up_links : (c : In-Ok) → UpTo c.args.bytes.now (at_links c.in_ok-setting.ensures.0 c.in_ok-setting.setting c.in_ok-columns.columns.order []) c.in_ok-columns.links_text.now
 up_links c =
-    let u = c.in_ok-setting.ensures.reads in
-    c.in_ok-links_text.ensures.reads c.args.bytes.now u.0 c.in_ok-setting.setting u.1
+    let u = c.in_ok-setting.ensures in
+    c.in_ok-columns.ensures c.args.bytes.now u.0 c.in_ok-setting.setting u.1
 
-pub returns-in_err-count : goal.returns-in_err-count
-returns-in_err-count c =
-    let p = err_from_is_err_and c.from_residual-in_err-count.result c.from_residual-in_err-count.ensures.1 in
-    let o = c.in_ok-setting.ensures.reads.0 in
+pub returns-in_err-names : goal.returns-in_err-names
+returns-in_err-names c =
+    let p = err_from_is_err_and c.from_residual-in_err-names.result c.from_residual-in_err-names.ensures.1 in
+    let o = c.in_ok-setting.ensures.0 in
     let h = c.in_ok-setting.setting in
     record {
-      judged = rw (p.1, p.2) (judged c.args.bytes.now (refused c.in_err-count.field-0.0)
-          (c.in_err-count.ensures.reads c.args.bytes.now o h (sym c.in-Ok.ensures.1)
-          (subst (λ x. UpTo c.args.bytes.now (at_links o h x []) c.in_ok-links_text.links_text.now) (sym c.deref.ensures.value) (up_links (goal.at.returns-in_err-count c).In-Ok))));
+      judged = rw (p.1, p.2) (judged c.args.bytes.now (refused c.in_err-names.field-0.0)
+          (c.in_err-names.ensures.reads c.args.bytes.now o h (sym c.in-Ok.ensures.1)
+          (up_links (goal.at.returns-in_err-names c).In-Ok)));
       sized = rw p.1 tt;
     }
 
 -- up to the line after the links
-up_names : (c : In_ok-count) → UpTo c.args.bytes.now (at_links c.in_ok-setting.ensures.reads.0 c.in_ok-setting.setting (vec_items c.link_names.new.columns) (vec_items c.link_table.new.mesh.links)) (c.in_ok-count.line.now ++ 10 ∷ c.in_ok-count.steps_text.now)
+up_names : (c : In_ok-names) → UpTo c.args.bytes.now (at_links c.in_ok-setting.ensures.0 c.in_ok-setting.setting c.in_ok-columns.columns.order (vec_items c.link_table.new.mesh.links)) (c.in_ok-names.names.text.now ++ 10 ∷ c.in_ok-names.steps_text.now)
 up_names c =
-    let o = c.in_ok-setting.ensures.reads.0 in
+    let o = c.in_ok-setting.ensures.0 in
     let h = c.in_ok-setting.setting in
-    let p = vec_items c.link_names.new.columns in
+    let p = c.in_ok-columns.columns.order in
     let bytes = c.args.bytes.now in
-    let u = c.in_ok-setting.ensures.reads in
-    let first = c.in_ok-links_text.ensures.reads bytes o h u.1 in
-    let r = c.in_ok-count.ensures.reads.is bytes o h (sym c.in-Ok.ensures.1) (subst (λ x. UpTo bytes (at_links o h x []) c.in_ok-links_text.links_text.now) (sym c.deref.ensures.value) first) in
-    subst (λ x. UpTo bytes (at_links o h x (vec_items c.link_table.new.mesh.links)) (c.in_ok-count.line.now ++ 10 ∷ c.in_ok-count.steps_text.now)) c.deref.ensures.value r
+    let u = c.in_ok-setting.ensures in
+    let first = c.in_ok-columns.ensures bytes o h u.1 in
+    let r = c.in_ok-names.ensures.reads.is bytes o h (sym c.in-Ok.ensures.1) first in
+    r
 
-pub returns-in_err-at_line : goal.returns-in_err-at_line
-returns-in_err-at_line c =
-    let e = err_from_is_err_and c.from_residual-in_err-at_line.result c.from_residual-in_err-at_line.ensures.1 in
-    let o = c.in_ok-setting.ensures.reads.0 in
+pub returns-in_err-step_columns : goal.returns-in_err-step_columns
+returns-in_err-step_columns c =
+    let e = err_from_is_err_and c.from_residual-in_err-step_columns.result c.from_residual-in_err-step_columns.ensures.1 in
+    let o = c.in_ok-setting.ensures.0 in
     let h = c.in_ok-setting.setting in
-    let p = vec_items c.link_names.new.columns in
+    let p = c.in_ok-columns.columns.order in
     let ls = vec_items c.link_table.new.mesh.links in
-    let line = c.in_ok-count.line.now in
-    let r = c.in_ok-count.ensures.reads in
-    let l = line_err (4 + c.len-number.result) c.names_line.result c.at_line.result c.in_err-at_line.field-0.0 _ (Fails (names_checks (names Steps) line)) c.at_line.ensures c.in_err-at_line.was c.names_line.ensures.reads in
+    let line = c.in_ok-names.names.text.now in
+    let r = c.in_ok-names.ensures.reads in
+    let l = line_err (4 + c.len-number.result) c.names_line.result c.at_line.result c.in_err-step_columns.field-0.0 _ (Fails (names_checks (names Steps) line)) c.at_line.ensures c.in_err-step_columns.was c.names_line.ensures in
     let n : 4 + c.len-number.result ≡ 4 + length ls = omega (arith, c.len-number.ensures, c.link_table.new.mesh.links.ok.0) in
     record {
-      judged = rw (e.1, e.2) (judged c.args.bytes.now (refused c.in_err-at_line.field-0.0)
-          (refuse c.args.bytes.now (at_links o h p ls) _ line c.in_ok-count.steps_text.now l.0 c.in_err-at_line.field-0.0 (up_names (goal.at.returns-in_err-at_line c).In_ok-count) refl r.cut.0 r.cut.1.0
+      judged = rw (e.1, e.2) (judged c.args.bytes.now (refused c.in_err-step_columns.field-0.0)
+          (refuse c.args.bytes.now (at_links o h p ls) _ line c.in_ok-names.steps_text.now l.0 c.in_err-step_columns.field-0.0 (up_names (goal.at.returns-in_err-step_columns c).In_ok-names) refl c.in_ok-names.names.cut.0 c.in_ok-names.names.cut.1.0
           (subst (λ cs. Fails cs l.0) (names_line_at o h p ls line r.ends) l.1) (l.2 ∙ ap (λ x. Line x l.0) n)));
       sized = rw e.1 tt;
     }
 
 -- the names of the steps
-named : (c : In_ok-at_line) → Order 2 (vec_items c.names_line.new.order) × (c.in_ok-count.line.now ≡ spaced (arranged (vec_items c.names_line.new.order) (names Steps)))
+named : (c : In_ok-step_columns) → c.in_ok-names.names.text.now ≡ spaced (arranged c.in_ok-step_columns.step_columns.order (names Steps))
 named c =
-    let q = vec_items c.names_line.new.order in
-    line_ok (4 + c.len-number.result) c.names_line.result c.at_line.result c.in_ok-at_line.field-0 (λ _. Order 2 q × (c.in_ok-count.line.now ≡ spaced (arranged q (names Steps)))) _ c.at_line.ensures c.in_ok-at_line.was c.names_line.ensures.reads
+    line_ok (4 + c.len-number.result) c.names_line.result c.at_line.result c.in_ok-step_columns.step_columns (λ q. c.in_ok-names.names.text.now ≡ spaced (arranged q.order (names Steps))) _ c.at_line.ensures c.in_ok-step_columns.was c.names_line.ensures
 
 -- up to the first step
-up_steps : (c : In_ok-at_line) (u : UpTo c.args.bytes.now (at_links c.in_ok-setting.ensures.reads.0 c.in_ok-setting.setting (vec_items c.link_names.new.columns) (vec_items c.link_table.new.mesh.links)) (c.in_ok-count.line.now ++ 10 ∷ c.in_ok-count.steps_text.now)) → UpTo c.args.bytes.now (at_steps c.in_ok-setting.ensures.reads.0 c.in_ok-setting.setting (vec_items c.link_names.new.columns) (vec_items c.link_table.new.mesh.links) (vec_items c.names_line.new.order) []) c.in_ok-count.steps_text.now
+up_steps : (c : In_ok-step_columns) (u : UpTo c.args.bytes.now (at_links c.in_ok-setting.ensures.0 c.in_ok-setting.setting c.in_ok-columns.columns.order (vec_items c.link_table.new.mesh.links)) (c.in_ok-names.names.text.now ++ 10 ∷ c.in_ok-names.steps_text.now)) → UpTo c.args.bytes.now (at_steps c.in_ok-setting.ensures.0 c.in_ok-setting.setting c.in_ok-columns.columns.order (vec_items c.link_table.new.mesh.links) c.in_ok-step_columns.step_columns.order []) c.in_ok-names.steps_text.now
 up_steps c u =
-    let n = named c in
-    to_steps c.args.bytes.now _ c.in_ok-count.line.now c.in_ok-count.steps_text.now refl c.in_ok-setting.ensures.reads.0 c.in_ok-setting.setting (vec_items c.link_names.new.columns) (vec_items c.link_table.new.mesh.links) (vec_items c.names_line.new.order) u n.0 n.1
+    to_steps c.args.bytes.now _ c.in_ok-names.names.text.now c.in_ok-names.steps_text.now refl c.in_ok-setting.ensures.0 c.in_ok-setting.setting c.in_ok-columns.columns.order (vec_items c.link_table.new.mesh.links) c.in_ok-step_columns.step_columns.order u c.in_ok-step_columns.step_columns.once (named c)
 
 pub step_table-requires : goal.step_table-requires
 step_table-requires c =
-    let a = (goal.at.step_table-requires c).In_ok-at_line in
-    let u = up_names (goal.at.step_table-requires c).In_ok-count in
-    let n = named a in
+    let a = (goal.at.step_table-requires c).In_ok-step_columns in
+    let u = up_names (goal.at.step_table-requires c).In_ok-names in
     let m = c.link_table.new.mesh in
     record {
-      order = subst (Order 2) (sym c.deref-2.ensures.value) n.0;
       near = omega (arith, c.len-number.ensures, m.few);
       none = c.args.self.empty;
-      short = omega (arith, u.short, ap length u.is, length-append (before (at_links c.in_ok-setting.ensures.reads.0 c.in_ok-setting.setting (vec_items c.link_names.new.columns) (vec_items m.links))) (c.in_ok-count.line.now ++ 10 ∷ c.in_ok-count.steps_text.now), length-append c.in_ok-count.line.now (10 ∷ c.in_ok-count.steps_text.now));
+      short = omega (arith, u.short, ap length u.is, length-append (before (at_links c.in_ok-setting.ensures.0 c.in_ok-setting.setting c.in_ok-columns.columns.order (vec_items m.links))) (c.in_ok-names.names.text.now ++ 10 ∷ c.in_ok-names.steps_text.now), length-append c.in_ok-names.names.text.now (10 ∷ c.in_ok-names.steps_text.now));
       room = c.args.self.enough;
     }
 
 pub returns-in_err-step_table : goal.returns-in_err-step_table
 returns-in_err-step_table c =
     let e = err_from_is_err_and c.from_residual-in_err-step_table.result c.from_residual-in_err-step_table.ensures.1 in
-    let o = c.in_ok-setting.ensures.reads.0 in
+    let o = c.in_ok-setting.ensures.0 in
     let h = c.in_ok-setting.setting in
-    let p = vec_items c.link_names.new.columns in
+    let p = c.in_ok-columns.columns.order in
     let ls = vec_items c.link_table.new.mesh.links in
-    let u = up_steps (goal.at.returns-in_err-step_table c).In_ok-at_line (up_names (goal.at.returns-in_err-step_table c).In_ok-count) in
+    let u = up_steps (goal.at.returns-in_err-step_table c).In_ok-step_columns (up_names (goal.at.returns-in_err-step_table c).In_ok-names) in
     record {
       judged = rw (e.1, e.2) (judged c.args.bytes.now (refused c.in_err-step_table.field-0.0)
           (c.in_err-step_table.ensures.reads c.args.bytes.now o h p ls (omega (arith, c.len-number.ensures, c.link_table.new.mesh.links.ok.0))
-          (subst (λ x. UpTo c.args.bytes.now (at_steps o h p ls x []) c.in_ok-count.steps_text.now) (sym c.deref-2.ensures.value) u)));
+          u));
       sized = rw e.1 tt;
     }
 
 -- up to the end
-up_end : (c : In_ok-step_table) (u : UpTo c.args.bytes.now (at_steps c.in_ok-setting.ensures.reads.0 c.in_ok-setting.setting (vec_items c.link_names.new.columns) (vec_items c.link_table.new.mesh.links) (vec_items c.names_line.new.order) []) c.in_ok-count.steps_text.now) → UpTo c.args.bytes.now (at_steps c.in_ok-setting.ensures.reads.0 c.in_ok-setting.setting (vec_items c.link_names.new.columns) (vec_items c.link_table.new.mesh.links) (vec_items c.names_line.new.order) (vec_items c.step_table.new.steps)) []
+up_end : (c : In_ok-step_table) (u : UpTo c.args.bytes.now (at_steps c.in_ok-setting.ensures.0 c.in_ok-setting.setting c.in_ok-columns.columns.order (vec_items c.link_table.new.mesh.links) c.in_ok-step_columns.step_columns.order []) c.in_ok-names.steps_text.now) → UpTo c.args.bytes.now (at_steps c.in_ok-setting.ensures.0 c.in_ok-setting.setting c.in_ok-columns.columns.order (vec_items c.link_table.new.mesh.links) c.in_ok-step_columns.step_columns.order (vec_items c.step_table.new.steps)) []
 up_end c u =
-    let o = c.in_ok-setting.ensures.reads.0 in
+    let o = c.in_ok-setting.ensures.0 in
     let h = c.in_ok-setting.setting in
-    let p = vec_items c.link_names.new.columns in
+    let p = c.in_ok-columns.columns.order in
     let ls = vec_items c.link_table.new.mesh.links in
     let bytes = c.args.bytes.now in
-    subst (λ x. UpTo bytes (at_steps o h p ls x (vec_items c.step_table.new.steps)) []) c.deref-2.ensures.value
-    (c.in_ok-step_table.ensures.reads bytes o h p ls (subst (λ x. UpTo bytes (at_steps o h p ls x []) c.in_ok-count.steps_text.now) (sym c.deref-2.ensures.value) u))
+    c.in_ok-step_table.ensures.reads bytes o h p ls u
 
 -- the mesh has the nodes and the root of the settings
 same_setting : (c : In_ok-step_table) → c.in_ok-setting.setting ≡ record { nodes = c.link_table.new.mesh.nodes; root = c.link_table.new.mesh.root; kind = c.in_ok-setting.setting.kind; detector = c.in_ok-setting.setting.detector; channel = c.in_ok-setting.setting.channel }
 same_setting c =
     let h = c.in_ok-setting.setting in
-    let e = sym (c.in_ok-count.ensures.nodes ∙ c.in-Ok.ensures.1) in
-    let f = sym (c.in_ok-count.ensures.root ∙ c.in-Ok.ensures.2) in
+    let e = sym (c.in_ok-names.ensures.nodes ∙ c.in-Ok.ensures.1) in
+    let f = sym (c.in_ok-names.ensures.root ∙ c.in-Ok.ensures.2) in
     λ i. record { nodes = e i; root = f i; kind = h.kind; detector = h.detector; channel = h.channel }
 
 -- the file writes this content
-writes : (c : In_ok-step_table) (u : UpTo c.args.bytes.now (at_steps c.in_ok-setting.ensures.reads.0 c.in_ok-setting.setting (vec_items c.link_names.new.columns) (vec_items c.link_table.new.mesh.links) (vec_items c.names_line.new.order) (vec_items c.step_table.new.steps)) []) → Accepts c.args.bytes.now (record { setting = record { nodes = c.link_table.new.mesh.nodes; root = c.link_table.new.mesh.root; kind = c.in_ok-setting.setting.kind; detector = c.in_ok-setting.setting.detector; channel = c.in_ok-setting.setting.channel }; links = vec_items c.link_table.new.mesh.links; steps = vec_items c.step_table.new.steps })
+writes : (c : In_ok-step_table) (u : UpTo c.args.bytes.now (at_steps c.in_ok-setting.ensures.0 c.in_ok-setting.setting c.in_ok-columns.columns.order (vec_items c.link_table.new.mesh.links) c.in_ok-step_columns.step_columns.order (vec_items c.step_table.new.steps)) []) → Accepts c.args.bytes.now (record { setting = record { nodes = c.link_table.new.mesh.nodes; root = c.link_table.new.mesh.root; kind = c.in_ok-setting.setting.kind; detector = c.in_ok-setting.setting.detector; channel = c.in_ok-setting.setting.channel }; links = vec_items c.link_table.new.mesh.links; steps = vec_items c.step_table.new.steps })
 writes c u =
     let ls = vec_items c.link_table.new.mesh.links in
     let ss = vec_items c.step_table.new.steps in
@@ -146,13 +141,13 @@ writes c u =
     (_, _, _, u.short, s.0, s.2, s.4, record { setting = s.1; links = s.3; steps = s.5 }, u.is ∙ append-nil _)
 
 -- the text in the standard order is as long as the file
-long : (c : In_ok-step_table) (u : UpTo c.args.bytes.now (at_steps c.in_ok-setting.ensures.reads.0 c.in_ok-setting.setting (vec_items c.link_names.new.columns) (vec_items c.link_table.new.mesh.links) (vec_items c.names_line.new.order) (vec_items c.step_table.new.steps)) []) → length (standard (record { setting = record { nodes = c.link_table.new.mesh.nodes; root = c.link_table.new.mesh.root; kind = c.in_ok-setting.setting.kind; detector = c.in_ok-setting.setting.detector; channel = c.in_ok-setting.setting.channel }; links = vec_items c.link_table.new.mesh.links; steps = vec_items c.step_table.new.steps })) ≡ length c.args.bytes.now
+long : (c : In_ok-step_table) (u : UpTo c.args.bytes.now (at_steps c.in_ok-setting.ensures.0 c.in_ok-setting.setting c.in_ok-columns.columns.order (vec_items c.link_table.new.mesh.links) c.in_ok-step_columns.step_columns.order (vec_items c.step_table.new.steps)) []) → length (standard (record { setting = record { nodes = c.link_table.new.mesh.nodes; root = c.link_table.new.mesh.root; kind = c.in_ok-setting.setting.kind; detector = c.in_ok-setting.setting.detector; channel = c.in_ok-setting.setting.channel }; links = vec_items c.link_table.new.mesh.links; steps = vec_items c.step_table.new.steps })) ≡ length c.args.bytes.now
 long c u = let w = writes c u in standard_length w.0 w.1 w.2 _ w.4 w.5 w.6 ∙ ap length (sym w.8)
 
 pub invariant_of-result : goal.invariant_of-result
 invariant_of-result c =
     let a = (goal.at.invariant_of-result c).In_ok-step_table in
-    let u = up_end a (up_steps (goal.at.invariant_of-result c).In_ok-at_line (up_names (goal.at.invariant_of-result c).In_ok-count)) in
+    let u = up_end a (up_steps (goal.at.invariant_of-result c).In_ok-step_columns (up_names (goal.at.invariant_of-result c).In_ok-names)) in
     record {
       picks = λ k d l. All-get_or (λ s. s.pick ≤ 65535) (vec_items c.step_table.new.steps) k d l u.sound.5;
       short = omega (arith, long a u, u.short);
@@ -161,5 +156,5 @@ invariant_of-result c =
 pub returns : goal.returns
 returns c =
     let a = (goal.at.returns c).In_ok-step_table in
-    let u = up_end a (up_steps (goal.at.returns c).In_ok-at_line (up_names (goal.at.returns c).In_ok-count)) in
+    let u = up_end a (up_steps (goal.at.returns c).In_ok-step_columns (up_names (goal.at.returns c).In_ok-names)) in
     record { judged = judged c.args.bytes.now (accepted _) (writes a u); sized = long a u }
