@@ -15,15 +15,6 @@ use Rattle.format.specs.Tables.{setting_takes, link_takes}
 use Rattle.format.specs.Verdict.{names_checks, field_checks, setting_checks, link_line_checks, place_of, SettingLine, LinkLine}
 use Rattle.format.proofs.Unique.{setting_same, link_same}
 
--- a line of names in some order
-abbrev pub InOrder : List (List ℕ) → List ℕ → Type 0
-InOrder ws line = (o : List ℕ) × Order (length ws) o × (line ≡ spaced (arranged o ws))
-
--- what the order of names says of the line of names
-pub named : {T : Type 0} (ws vs : List (List ℕ)) (o line : List ℕ) (r : Result T LineFault) → ws ≡ vs → HasFields line (length vs) → MatchResult r (λ _. Order (length ws) o × (line ≡ spaced (arranged o ws))) (λ e. (InOrder ws line → ⊥) × (e ≡ WrongNames)) → MatchResult r (λ _. Order (length vs) o × (line ≡ spaced (arranged o vs))) (Fails (names_checks vs line))
-named ws vs o line (Ok x) e c h = subst (λ us. Order (length us) o × (line ≡ spaced (arranged o us))) e h
-named ws vs o line (Err f) e c h = inr (c, inl (subst (λ us. InOrder us line → ⊥) e h.0, h.1))
-
 -- The root is not below nodes: every field is taken, and the only settings that the line writes break the rule.
 pub root_fails : (o line : List ℕ) (h : Setting) (i : ℕ) → Order 5 o → HasFields line 5 → Passes (field_checks setting_takes line 0 o) → SettingLine o line h → h.nodes ≤ h.root → i ≡ place_of 1 o → Fails (setting_checks o line) (BadField (i + 1))
 root_fails o line h i q c p w b e =

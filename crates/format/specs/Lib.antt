@@ -1,4 +1,5 @@
 pub mod Columns
+pub mod OrdersOnce
 pub mod Tables
 pub mod Content
 pub mod Verdict

@@ -113,10 +113,7 @@ impl Room {
         let Room { links, mut steps } = self;
         let (setting, names_text) = setting_table(bytes)?;
         let (columns, links_text) = link_names(names_text)?;
-        let mut mesh = match Mesh::open(links, setting.nodes, setting.root) {
-            Ok(mesh) => mesh,
-            Err(_) => unreachable(),
-        };
+        let mut mesh = Mesh::open(links, setting.nodes, setting.root).unwrap();
         let (names, steps_text) = link_table(&columns, &mut mesh, links_text)?;
         let number = 4 + mesh.links.len();
         let step_columns = at_line(number, names_line(Table::Steps, names))?;

@@ -1,8 +1,8 @@
 -- A line has its fields in one way: what the type of a line needs. No contract cites it, and nobody has to read it.
 use Rattle.std.specs.Prelude.{◌≡◌, ℕ, List, [], ◌∷◌, ◌++◌, length, refl}
 use Rattle.std.proofs.Common.{sym, ap, ◌∙◌, subst, arith}
-use Rattle.std.specs.List.{AllByRecursion}
-use Rattle.std.specs.Coded.{×_prop, Unit-prop, le_prop, Coded-set, coded_ℕ, coded_list}
+use Rattle.std.specs.List.{AllByRecursion, AllByRecursion-prop}
+use Rattle.std.specs.Coded.{×_prop, le_prop, Coded-set, coded_ℕ, coded_list}
 use mathlib.Core.HLevel.{is_prop→PathP}
 use Rattle.text.specs.Lines.{Mark, Field, Fields, Cut, HasFields, spaced}
 
@@ -40,17 +40,13 @@ fields_same line (f ∷ e ∷ fs) (g ∷ h ∷ gs) v w =
     let t = fields_same (spaced (e ∷ fs)) (e ∷ fs) (h ∷ gs) (record { is = refl; each = v.each.1; some = omega arith }) (record { is = r.2; each = w.each.1; some = omega arith }) in
     let s = r.0 in cc
 
-all_prop : {A : Type 0} (P : A → Type 0) → ((x : A) → IsProp (P x)) → (xs : List A) → IsProp (AllByRecursion P xs)
-all_prop P h [] = Unit-prop
-all_prop P h (x ∷ xs) = ×_prop (h x) (all_prop P h xs)
-
 field_prop : (f : List ℕ) → IsProp (Field f)
-field_prop f = ×_prop le_prop (all_prop Mark (λ b. ×_prop le_prop le_prop) f)
+field_prop f = ×_prop le_prop (AllByRecursion-prop Mark (λ b. ×_prop le_prop le_prop) f)
 
 fields_prop : (line : List ℕ) (fs : List (List ℕ)) → IsProp (Fields line fs)
 fields_prop line fs v w = λ i. record {
   is = Coded-set (coded_list coded_ℕ) line (spaced fs) v.is w.is i;
-  each = all_prop Field field_prop fs v.each w.each i;
+  each = AllByRecursion-prop Field field_prop fs v.each w.each i;
   some = le_prop v.some w.some i;
 }
 

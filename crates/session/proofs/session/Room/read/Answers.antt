@@ -1,8 +1,11 @@
-use Rattle.std.proofs.Common.{◌≡◌, ◌+◌, ◌≤◌, [], ◌∷◌, ◌++◌, length, vec_items, sym, refl, ap, ◌∙◌, subst, append-nil, arith}
+use Rattle.std.proofs.Common.{◌≡◌, ℕ, Ok, Result, MatchResult, ◌+◌, ◌≤◌, [], ◌∷◌, ◌++◌, length, vec_items, sym, refl, ap, ◌∙◌, subst, append-nil, arith}
 use Rattle.std.proofs.ByRecursion.{All-get_or}
 use Rattle.std.proofs.lemmas.List.{length-append}
-use Rattle.std.proofs.lemmas.Result.{err_from_is_err_and}
-use Rattle.fault.specs.Checks.{Fails}
+use Rattle.std.proofs.lemmas.Result.{err_from_is_err_and, MatchResult-at_ok}
+use Rattle.fault.specs.Checks.{Passes, Fails}
+use Rattle.mesh.specs.declared.mesh.Mesh.{Mesh}
+use Rattle.mesh.specs.declared.link.MeshFault.{MeshFault}
+use Rattle.mesh.specs.Checks.{root_checks}
 use Rattle.text.specs.Lines.{spaced}
 use Rattle.vocab.specs.declared.kinds.Table.TheVariants.{Steps}
 use Rattle.vocab.specs.declared.faults.ReadFault.TheVariants.{Line}
@@ -15,7 +18,7 @@ use Rattle.format.proofs.Lengths.{standard_length}
 use Rattle.format.proofs.Single.{judged}
 use Rattle.format.proofs.Walks.{refuse, to_steps, names_line_at}
 use Rattle.session.proofs.session.Room.read.Goals as goal
-use Rattle.session.proofs.session.Room.read.Goals.{In_ok-setting, In_ok-columns, In-Ok, In_ok-names, In_ok-step_columns, In_ok-step_table}
+use Rattle.session.proofs.session.Room.read.Goals.{In_ok-setting, In_ok-columns, After-unwrap-mesh, In_ok-names, In_ok-step_columns, In_ok-step_table}
 
 pub returns-in_err-setting : goal.returns-in_err-setting
 returns-in_err-setting c =
@@ -28,8 +31,17 @@ returns-in_err-columns c =
     let u = c.in_ok-setting.ensures in
     record { judged = rw (p.1, p.2) (judged c.args.bytes.now (refused c.in_err-columns.field-0.0) (c.in_err-columns.ensures c.args.bytes.now u.0 c.in_ok-setting.setting u.1)); sized = rw p.1 tt }
 
+-- the mesh that was opened
+opened_as : (nodes root : ℕ) (r : Result Mesh MeshFault) (m : Mesh) → r ≡ Ok m →
+    MatchResult r (λ x. Passes (root_checks nodes root) × (x.nodes ≡ nodes) × (x.root ≡ root) × (x.links.items ≡ [])) (Fails (root_checks nodes root)) →
+    (m.nodes ≡ nodes) × (m.root ≡ root) × (m.links.items ≡ [])
+opened_as nodes root r m is h = let k = MatchResult-at_ok _ _ m is h in (k.1, k.2, k.3)
+
+pub link_table-requires : goal.link_table-requires
+link_table-requires c = (opened_as c.in_ok-setting.setting.nodes c.in_ok-setting.setting.root c.open.result c.unwrap-mesh.result c.unwrap-mesh.ensures c.open.ensures).2
+
 -- the file is in order up to the first link
-up_links : (c : In-Ok) → UpTo c.args.bytes.now (at_links c.in_ok-setting.ensures.0 c.in_ok-setting.setting c.in_ok-columns.columns.order []) c.in_ok-columns.links_text.now
+up_links : (c : After-unwrap-mesh) → UpTo c.args.bytes.now (at_links c.in_ok-setting.ensures.0 c.in_ok-setting.setting c.in_ok-columns.columns.order []) c.in_ok-columns.links_text.now
 up_links c =
     let u = c.in_ok-setting.ensures in
     c.in_ok-columns.ensures c.args.bytes.now u.0 c.in_ok-setting.setting u.1
@@ -41,8 +53,8 @@ returns-in_err-names c =
     let h = c.in_ok-setting.setting in
     record {
       judged = rw (p.1, p.2) (judged c.args.bytes.now (refused c.in_err-names.field-0.0)
-          (c.in_err-names.ensures.reads c.args.bytes.now o h (sym c.in-Ok.ensures.1)
-          (up_links (goal.at.returns-in_err-names c).In-Ok)));
+          (c.in_err-names.ensures.reads c.args.bytes.now o h (sym (opened_as c.in_ok-setting.setting.nodes c.in_ok-setting.setting.root c.open.result c.unwrap-mesh.result c.unwrap-mesh.ensures c.open.ensures).0)
+          (up_links (goal.at.returns-in_err-names c).After-unwrap-mesh)));
       sized = rw p.1 tt;
     }
 
@@ -55,7 +67,7 @@ up_names c =
     let bytes = c.args.bytes.now in
     let u = c.in_ok-setting.ensures in
     let first = c.in_ok-columns.ensures bytes o h u.1 in
-    let r = c.in_ok-names.ensures.reads.is bytes o h (sym c.in-Ok.ensures.1) first in
+    let r = c.in_ok-names.ensures.reads.is bytes o h (sym (opened_as c.in_ok-setting.setting.nodes c.in_ok-setting.setting.root c.open.result c.unwrap-mesh.result c.unwrap-mesh.ensures c.open.ensures).0) first in
     r
 
 pub returns-in_err-step_columns : goal.returns-in_err-step_columns
@@ -127,8 +139,8 @@ up_end c u =
 same_setting : (c : In_ok-step_table) → c.in_ok-setting.setting ≡ record { nodes = c.link_table.new.mesh.nodes; root = c.link_table.new.mesh.root; kind = c.in_ok-setting.setting.kind; detector = c.in_ok-setting.setting.detector; channel = c.in_ok-setting.setting.channel }
 same_setting c =
     let h = c.in_ok-setting.setting in
-    let e = sym (c.in_ok-names.ensures.nodes ∙ c.in-Ok.ensures.1) in
-    let f = sym (c.in_ok-names.ensures.root ∙ c.in-Ok.ensures.2) in
+    let e = sym (c.in_ok-names.ensures.nodes ∙ (opened_as c.in_ok-setting.setting.nodes c.in_ok-setting.setting.root c.open.result c.unwrap-mesh.result c.unwrap-mesh.ensures c.open.ensures).0) in
+    let f = sym (c.in_ok-names.ensures.root ∙ (opened_as c.in_ok-setting.setting.nodes c.in_ok-setting.setting.root c.open.result c.unwrap-mesh.result c.unwrap-mesh.ensures c.open.ensures).1) in
     λ i. record { nodes = e i; root = f i; kind = h.kind; detector = h.detector; channel = h.channel }
 
 -- the file writes this content
