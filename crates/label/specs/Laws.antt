@@ -1,37 +1,31 @@
 -- The laws hold of both kinds; and worked cases.
-use Rattle.std.specs.Prelude.{◌≡◌, ◌≤◌}
+use Rattle.std.specs.Prelude.{◌≡◌}
 use Rattle.std.proofs.Common.{arith}
-use Rattle.std.proofs.Math.Bridge.{le_prop}
-use mathlib.Core.HLevel.{is_prop→PathP}
 use Rattle.mesh.specs.declared.link.Link.{Link}
 use Rattle.label.specs.Kinds.{Lawful}
 use Rattle.label.specs.Costs.{cost_kind}
 use Rattle.label.specs.Widths.{width_kind}
+use Rattle.label.specs.contracts.cost.Cost as cost
+use Rattle.label.specs.contracts.width.Width as width
 use Rattle.label.specs.declared.cost.Cost.{Cost}
 use Rattle.label.specs.declared.width.Width.{Width}
 
--- two labels of one metric are one label
-pub cost_same : (a b : Cost) → a.metric ≡ b.metric → a ≡ b
-cost_same a b e = λ i. record { metric = e i; fits = is_prop→PathP (λ j. e j ≤ 4294967295) (λ j. le_prop) a.fits b.fits i }
-
-pub width_same : (a b : Width) → a.metric ≡ b.metric → a ≡ b
-width_same a b e = λ i. record { metric = e i; fits = is_prop→PathP (λ j. e j ≤ 65535) (λ j. le_prop) a.fits b.fits i }
-
+-- Each kind is lawful; two labels of one metric are one label.
 pub cost_lawful : Lawful cost_kind
 cost_lawful = record {
-  below = λ a. omega (arith, a.fits);
-  same = cost_same;
+  below = λ a. omega arith;
+  same = λ a b e. grind (arith, cost.the_row.coded.inj);
   worst = λ a. a.fits;
   keeps = λ a b l h. omega arith;
-  never = λ a l. omega (arith, a.fits);
+  never = λ a l. omega arith;
 }
 
 pub width_lawful : Lawful width_kind
 width_lawful = record {
   below = λ a. omega arith;
-  same = λ a b e. width_same a b (omega (arith, a.fits, b.fits));
+  same = λ a b e. grind (arith, width.the_row.coded.inj);
   worst = λ a. omega arith;
-  keeps = λ a b l h. omega (arith, a.fits, b.fits);
+  keeps = λ a b l h. omega arith;
   never = λ a l. omega arith;
 }
 

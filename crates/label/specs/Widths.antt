@@ -1,32 +1,29 @@
 -- The kind width.
-use Rattle.std.specs.Prelude.{ℕ, ◌-◌, ◌≤◌, min, cond, List, codes, decimal, ◌==◌}
-use Rattle.std.proofs.Common.{arith}
+use Rattle.std.specs.Prelude.{ℕ, ◌-◌, ◌≤◌, min, List, Option, Some, None, nat_eq, if◌then◌else◌}
+use Rattle.std.proofs.Common.{zero-le}
+use Rattle.std.proofs.Math.Nat.{le_refl, le_trans, min-le_left}
 use Rattle.label.specs.Kinds.{Kind}
+use Rattle.label.specs.Texts.{value_text}
 use Rattle.label.specs.declared.width.Width.{Width}
 
 -- the label of a width; no width, 0, is none
 abbrev pub width_of : (n : ℕ) → n ≤ 65535 → Width
 width_of n h = record { metric = n; fits = h }
 
-pub widest_fits : 65535 ≤ 65535
-widest_fits = omega arith
-
-pub none_fits : 0 ≤ 65535
-none_fits = omega arith
-
-pub lesser_fits : (m n : ℕ) → m ≤ 65535 → min m n ≤ 65535
-lesser_fits m n h = omega arith
-
 -- extending takes the lesser of the label and the link's width
 abbrev pub width_kind : Kind Width
 width_kind = record {
   rank = λ w. 65535 - w.metric;
   span = 65536;
-  none = width_of 0 none_fits;
-  start = width_of 65535 widest_fits;
-  extend = λ w l. width_of (min w.metric l.width) (lesser_fits w.metric l.width w.fits);
+  none = width_of 0 zero-le;
+  start = width_of 65535 (le_refl 65535);
+  extend = λ w l. width_of (min w.metric l.width) (le_trans (min-le_left w.metric l.width) w.fits);
 }
 
--- a decimal number, or a minus sign for none
+-- the width; nothing for none
+abbrev pub width_value : Width → Option ℕ
+width_value w = if nat_eq w.metric 0 then None else Some w.metric
+
+-- how a label is written
 abbrev pub width_text : Width → List ℕ
-width_text w = cond (w.metric == 0) (codes "-") (decimal w.metric)
+width_text w = value_text (width_value w)

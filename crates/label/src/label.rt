@@ -1,5 +1,5 @@
 //! The trait of label kinds.
-ghost use Rattle.std.specs.Prelude.{◌≡◌, nat_lt};
+ghost use Rattle.std.specs.Prelude.{◌≡◌, ◌<◌, ◌↔◌, IsTrue};
 ghost use Rattle.label.specs.Kinds.{Kind, Lawful};
 
 use mesh::link::Link;
@@ -8,9 +8,6 @@ use mesh::link::Link;
 pub trait Label: Copy {
     // what the labels mean
     ghost kind: { Kind Self };
-
-    // the four laws, which each kind proves
-    ghost lawful: { Lawful kind };
 
     /// The label of a node that no path is known to reach.
     fn none() -> Self
@@ -24,7 +21,11 @@ pub trait Label: Copy {
     fn extend(self, link: &Link) -> Self
         ensures { result ≡ kind.extend self link.now };
 
-    /// Whether this label is better than another.
+    /// Whether this label is better than another. This is no `Ord`: the better cost is the smaller, the better width the
+    /// greater.
     fn better(&self, other: &Self) -> bool
-        ensures { result ≡ nat_lt (kind.rank self.now) (kind.rank other.now) };
+        ensures { IsTrue result ↔ (kind.rank self.now < kind.rank other.now) };
+
+    // the four laws, which each kind proves
+    ghost lawful: { Lawful kind };
 }

@@ -7,6 +7,7 @@ use crate::label::Label;
 use mesh::link::Link;
 
 /// None extended by any link: none, whatever the kind.
+#[tactic(auto, using(crate::proofs::Bests::none_stays))]
 pub fn none_extended<K: Label>(link: &Link) -> K
     ensures { result ≡ K.Label.kind.none }
 {
@@ -26,6 +27,7 @@ pub fn root_label<K: Label>() -> K
 const WORKED: u8 = 3;
 
 /// The worked cases of extension hold. Answers how many there are.
+#[tactic(auto, using(crate::specs::Laws::cost_lawful, crate::specs::Laws::width_lawful))]
 pub fn worked_extensions() -> u8
     ensures count { result ≡ 3 }
     ensures hold { Worked }

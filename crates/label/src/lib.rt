@@ -2,7 +2,6 @@
 #![tactic(auto)]
 
 pub mod cost;
-pub mod kinds;
 pub mod label;
 pub mod laws;
 pub mod printed;

@@ -4,6 +4,7 @@ use crate::label::Label;
 use crate::printed::Printed;
 use crate::width::Width;
 use mesh::link::Link;
+use text::output::Output;
 
 // a cost and a width; the cost and the width of a link; the cost and the width after it
 const EXTENSIONS: [(u32, u16, u16, u16, u32, u16); 24] = [
@@ -36,8 +37,8 @@ const EXTENSIONS: [(u32, u16, u16, u16, u32, u16); 24] = [
 // The metrics after a link.
 fn extended(cost: u32, width: u16, link: &Link) -> (u32, u16) {
     (
-        Cost::of(cost).extend(link).metric,
-        Width::of(width).extend(link).metric,
+        Cost::from(cost).extend(link).metric,
+        Width::from(width).extend(link).metric,
     )
 }
 
@@ -55,28 +56,33 @@ fn extensions(rt: HostRuntime) {
 }
 
 // What is written of a label from place 1 on, with the length.
-fn shown<K: Printed + Drop>(label: K) -> ([u8; 12], usize) {
+fn shown<K: Printed>(label: K) -> ([u8; 12], usize) {
     let mut out = [b'.'; 12];
-    let end = label.put_text(&mut out, 1);
+    let mut output = Output {
+        bytes: &mut out,
+        end: 1,
+    };
+    label.put_text(&mut output);
+    let end = output.end;
     (out, end)
 }
 
 #[test]
 fn texts(rt: HostRuntime) {
-    assert_eq!(rt; shown(Cost::of(0)), (*b".0..........", 2));
-    assert_eq!(rt; shown(Cost::of(4294967294)), (*b".4294967294.", 11));
-    assert_eq!(rt; shown(Cost::of(4294967295)), (*b".-..........", 2));
-    assert_eq!(rt; shown(Width::of(65535)), (*b".65535......", 6));
-    assert_eq!(rt; shown(Width::of(10)), (*b".10.........", 3));
-    assert_eq!(rt; shown(Width::of(0)), (*b".-..........", 2));
+    assert_eq!(rt; shown(Cost::from(0)), (*b".0..........", 2));
+    assert_eq!(rt; shown(Cost::from(4294967294)), (*b".4294967294.", 11));
+    assert_eq!(rt; shown(Cost::from(4294967295)), (*b".-..........", 2));
+    assert_eq!(rt; shown(Width::from(65535)), (*b".65535......", 6));
+    assert_eq!(rt; shown(Width::from(10)), (*b".10.........", 3));
+    assert_eq!(rt; shown(Width::from(0)), (*b".-..........", 2));
 }
 
 #[test]
 fn orders(rt: HostRuntime) {
-    assert!(rt; Cost::of(3).better(&Cost::of(4)));
-    assert!(rt; !Cost::of(4).better(&Cost::of(4)));
-    assert!(rt; Cost::of(4294967294).better(&Cost::none()));
-    assert!(rt; Width::of(5).better(&Width::of(4)));
-    assert!(rt; !Width::of(5).better(&Width::of(5)));
-    assert!(rt; Width::of(1).better(&Width::none()));
+    assert!(rt; Cost::from(3).better(&Cost::from(4)));
+    assert!(rt; !Cost::from(4).better(&Cost::from(4)));
+    assert!(rt; Cost::from(4294967294).better(&Cost::none()));
+    assert!(rt; Width::from(5).better(&Width::from(4)));
+    assert!(rt; !Width::from(5).better(&Width::from(5)));
+    assert!(rt; Width::from(1).better(&Width::none()));
 }

@@ -1,5 +1,5 @@
 -- Chains of parents: they are paths, their labels are good, and they are short.
-use Rattle.std.proofs.Common.{◌≡◌, ℕ, suc, ◌<◌, ◌≤◌, ◌≢◌, List, [], ◌∷◌, length, Some, Option, sym, refl, ap, ◌∙◌, subst, inl, inr, arith}
+use Rattle.std.proofs.Common.{◌≡◌, ℕ, suc, ◌<◌, ◌≤◌, ◌≢◌, List, [], ◌∷◌, length, Some, Option, refl, ap, ◌∙◌, inl, inr, arith}
 use mathlib.Core.List.Memᴰ
 use mathlib.Core.List.{Memᴰ}
 use native.Mathlib.Decide.{dec_lt}
@@ -44,7 +44,7 @@ module _ {L : Type 0} (κ : Kind L) (g : Graph) (laws : Lawful κ) (ok : Accepte
   one_length (k ∷ ks) [] v p q = cc (p.0, q.1)
   one_length (k ∷ ks) (j ∷ js) v p q =
       let e : j ≡ k = cc (p.0, q.0) in
-      ap suc (one_length ks js (link_at g k).from p.1 (subst (λ (x : ℕ). Parents g parent js (link_at g x).from) e q.1))
+      ap suc (one_length ks js (link_at g k).from p.1 (rw e at q.1))
 
   -- x is a node, and has a chain of at most n links
   record Within (n x : ℕ) : Type 0 where
@@ -54,7 +54,7 @@ module _ {L : Type 0} (κ : Kind L) (g : Graph) (laws : Lawful κ) (ok : Accepte
     real : x < g.nodes
 
   here : (ks : List ℕ) (v x : ℕ) → v < g.nodes → Parents g parent ks v → x ≡ v → Within (length ks) x
-  here ks v x h p e = record { chain = ks; parents = subst (Parents g parent ks) (sym e) p; size = omega arith; real = omega (arith, e) }
+  here ks v x h p e = record { chain = ks; parents = rw e p; size = omega arith; real = omega arith }
 
   -- Each node of a chain has a chain that is no longer: the rest of it.
   within : (ks : List ℕ) (v x : ℕ) → v < g.nodes → Parents g parent ks v → Memᴰ x (nodes_of ks v) → Within (length ks) x
@@ -64,7 +64,7 @@ module _ {L : Type 0} (κ : Kind L) (g : Graph) (laws : Lawful κ) (ok : Accepte
     | inl e ↦ here (k ∷ ks) v x h p e
     | inr r ↦
         let o = within ks (link_at g k).from x (above v k h p.0) p.1 r in
-        record { chain = o.chain; parents = o.parents; size = omega (arith, o.size); real = o.real }
+        record { chain = o.chain; parents = o.parents; size = omega arith; real = o.real }
   ]
 
   -- Were a node twice on a chain, it would have two chains, one shorter than the other.
@@ -73,7 +73,7 @@ module _ {L : Type 0} (κ : Kind L) (g : Graph) (laws : Lawful κ) (ok : Accepte
   distinct [] v h p = (Memᴰ.not-nil, tt)
   distinct (k ∷ ks) v h p =
       let h' = above v k h p.0 in (
-        λ q. let o = within ks (link_at g k).from v h' p.1 q in omega (arith, o.size, one_length (k ∷ ks) o.chain v p o.parents),
+        λ q. let o = within ks (link_at g k).from v h' p.1 q in omega (arith, one_length (k ∷ ks) o.chain v p o.parents),
         distinct ks (link_at g k).from h' p.1,
       )
 
@@ -83,7 +83,7 @@ module _ {L : Type 0} (κ : Kind L) (g : Graph) (laws : Lawful κ) (ok : Accepte
 
   -- a label other than none is better
   pub labelled : (l : L) → l ≢ κ.none → κ.rank l < κ.rank κ.none
-  labelled l n = elim (dec_lt (κ.rank l) (κ.rank κ.none)) [ yes b ↦ b | no c ↦ absurd (n (laws.same _ _ (omega (arith, c, laws.worst l)))) ]
+  labelled l n = elim (dec_lt (κ.rank l) (κ.rank κ.none)) [ yes b ↦ b | no c ↦ absurd (n (laws.same _ _ (omega (arith, laws.worst l)))) ]
 
   -- so each node with a label has a route
   pub route : (v : ℕ) → v < g.nodes → label v ≢ κ.none → Route g parent v

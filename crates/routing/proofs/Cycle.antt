@@ -1,5 +1,5 @@
 -- Three nodes under two rules of adoption: with the wrong one their parents form a cycle, with the right one all is well.
-use Rattle.std.proofs.Common.{◌≡◌, ℕ, zero, suc, ◌<◌, true, false, ◌≢◌, List, [], ◌∷◌, None, refl, subst, arith}
+use Rattle.std.proofs.Common.{◌≡◌, ℕ, zero, suc, ◌<◌, true, false, ◌≢◌, List, [], ◌∷◌, None, refl, arith}
 use Rattle.label.specs.declared.cost.Cost.{Cost}
 use Rattle.label.specs.Costs.{cost_kind}
 use Rattle.label.specs.Paths.{link_at}
@@ -67,8 +67,8 @@ module _ (Wins : ℕ → ℕ → Type 0) where
   -- As the links leave different nodes, link k is the first that leaves its from node.
   goes : (k : ℕ) (s : State Cost) (es : List (Event Cost)) → Ready k s → LeadsTo es s → LeadsTo (away_events k s es) (away k s)
   goes k s es y r =
-      let first : (j : ℕ) → j < k → (link_at three_nodes j).from ≢ (link_at three_nodes k).from = λ j i f. omega (arith, f, from_is j (omega (arith, y.real)), from_is k y.real) in
-      (s, r, sent cost_kind three_nodes k (extended k s) s y.empty y.active (omega (arith, y.next)) y.real first refl)
+      let first : (j : ℕ) → j < k → (link_at three_nodes j).from ≢ (link_at three_nodes k).from = λ j i f. omega (arith, from_is j (omega (arith, y.real)), from_is k y.real) in
+      (s, r, sent cost_kind three_nodes k (extended k s) s y.empty y.active (omega arith) y.real first refl)
 
   -- it is sent along link k and adopted
   abbrev hop : ℕ → State Cost → State Cost
@@ -85,7 +85,7 @@ module _ (Wins : ℕ → ℕ → Type 0) where
   rest v s = after_idling three_nodes v s
 
   rests : (v : ℕ) (s : State Cost) (es : List (Event Cost)) → Spent v s → LeadsTo es s → LeadsTo (idles v ∷ es) (rest v s)
-  rests v s es y r = (s, r, idled three_nodes v s y.active (λ j past real f. omega (arith, past, y.next, f, from_is j real)))
+  rests v s es y r = (s, r, idled three_nodes v s y.active (λ j past real f. omega (arith, from_is j real)))
 
   -- node 1 adopts cost 1 from the root, and node 2 adopts it from node 1
   abbrev once : State Cost
@@ -111,11 +111,11 @@ closed = hop AtLeastAsGood 2 (twice AtLeastAsGood)
 
 -- A chain from 1 goes on from 2, and one from 2 goes on from 1; neither is the root, so none ends.
 never : (ks : List ℕ) → (Parents three_nodes closed.parent ks 1 → ⊥) × (Parents three_nodes closed.parent ks 2 → ⊥)
-never [] = (λ p. omega (arith, p.0), λ p. omega (arith, p.0))
+never [] = (λ p. omega arith, λ p. omega arith)
 never (k ∷ ks) =
     let rest = never ks in (
-      λ p. let e : k ≡ 2 = cc p.0 in rest.1 (subst (λ (x : ℕ). Parents three_nodes closed.parent ks (link_at three_nodes x).from) e p.1),
-      λ p. let e : k ≡ 1 = cc p.0 in rest.0 (subst (λ (x : ℕ). Parents three_nodes closed.parent ks (link_at three_nodes x).from) e p.1),
+      λ p. let e : k ≡ 2 = cc p.0 in rest.1 (rw e at p.1),
+      λ p. let e : k ≡ 1 = cc p.0 in rest.0 (rw e at p.1),
     )
 
 pub cycle_after : (n : ℕ) → n ≡ 6 → CycleAfter n
@@ -140,7 +140,7 @@ back_events = declines 2 (extended 2 (twice Better)) ∷ away_events Better 2 (t
 back_made : Trace Better cost_kind three_nodes back_events back
 back_made =
     let sent_back = goes Better 2 (twice Better) (twice_events Better) (back_ready Better) (twice_made Better (omega arith)) in
-    (away Better 2 (twice Better), sent_back, declined Better cost_kind three_nodes 2 (extended 2 (twice Better)) (away Better 2 (twice Better)) refl (λ h. omega (arith, h)))
+    (away Better 2 (twice Better), sent_back, declined Better cost_kind three_nodes 2 (extended 2 (twice Better)) (away Better 2 (twice Better)) refl (λ h. omega arith))
 
 abbrev calm : State Cost
 calm = rest Better 2 (rest Better 1 (rest Better 0 back))

@@ -1,7 +1,6 @@
 -- The theorem on best routes.
-use Rattle.std.proofs.Common.{◌≡◌, ℕ, ◌<◌, ◌≤◌, ◌≢◌, List, [], ◌∷◌, length, ap, ◌∙◌, subst, inl, inr, arith}
+use Rattle.std.proofs.Common.{◌≡◌, ℕ, ◌<◌, ◌≤◌, ◌≢◌, List, [], ◌∷◌, length, ap, ◌∙◌, inl, inr, arith}
 use mathlib.Core.List.Memᴰ
-use mathlib.Core.List.{Memᴰ}
 use Rattle.mesh.specs.declared.mesh.Mesh.{Mesh}
 use Rattle.label.specs.Kinds.{Kind, Lawful}
 use Rattle.label.specs.Paths.{Graph, graph, link_at, Leads, path_label, Best}
@@ -38,7 +37,7 @@ module _ {L : Type 0} (κ : Kind L) (g : Graph) (laws : Lawful κ) (ok : Accepte
         let b = ok.from_in k h in
         elim (i.relaxed k h (omega (arith, i.resting v b (quiet.passive v b)))) [
           | inl q ↦ q
-          | inr q ↦ absurd (Memᴰ.not-nil (subst (Memᴰ _) quiet.empty q.1))
+          | inr q ↦ absurd (Memᴰ.not-nil (rw quiet.empty at q.1))
         ]
 
     -- No path has a better label than its node. The empty path has start, the root's label. A longer one: the label of the

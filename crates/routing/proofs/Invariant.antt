@@ -78,5 +78,5 @@ module _ {L : Type 0} (κ : Kind L) (g : Graph) (laws : Lawful κ) where
   carried_better f h better x c = record {
     real = c.real;
     made = c.made;
-    late = omega (arith, c.late, laws.keeps _ _ (link_at g x.along) (better (link_at g x.along).from));
+    late = omega (arith, laws.keeps _ _ (link_at g x.along) (better (link_at g x.along).from));
   }

@@ -1,5 +1,5 @@
 -- Steps that change no label and no parent; of these, a message declined and a call that changed nothing.
-use Rattle.std.proofs.Common.{◌≡◌, ℕ, ◌<◌, ◌≤◌, ◌⊎◌, length, sym, ap, ◌∙◌, subst, inl, inr, arith}
+use Rattle.std.proofs.Common.{◌≡◌, ℕ, ◌<◌, ◌≤◌, ◌⊎◌, length, sym, ap, ◌∙◌, inl, inr, arith}
 use mathlib.Core.List.{Memᴰ}
 use native.Mathlib.Decide.{ℕ_discrete}
 use Rattle.label.specs.Kinds.{Kind, Lawful}
@@ -27,28 +27,28 @@ module _ {L : Type 0} (κ : Kind L) (g : Graph) (laws : Lawful κ) (s t : State 
   -- waits still, or, where that is gone, by the label at its end, which is at least as good as the message's was.
   pub still_relaxed : Accounted → (k : ℕ) → k < length g.links → k < s.next (link_at g k).from → LinkRelaxed κ g t.label t.waiting k
   still_relaxed there k h b = elim (i.relaxed k h b) [
-    | inl q ↦ inl (omega (arith, q, to_rank k, from_rank k))
+    | inl q ↦ inl (omega (arith, to_rank k, from_rank k))
     | inr q ↦ elim (there k q.0 q.1) [
-      | inl r ↦ inr (q.0, r, omega (arith, q.2, from_rank k))
-      | inr r ↦ inl (omega (arith, q.2, r, to_rank k, from_rank k))
+      | inl r ↦ inr (q.0, r, omega (arith, from_rank k))
+      | inr r ↦ inl (omega (arith, to_rank k, from_rank k))
     ]
   ]
 
   pub all_wait : t.waiting ≡ s.waiting → Accounted
-  all_wait e k l h = inl (subst (Memᴰ (record { along = k; carried = l })) (sym e) h)
+  all_wait e k l h = inl (rw e h)
 
 -- The message that is gone was no better than the label at its link's end. The node that it reached is active, so
 -- nothing is asked of its next link.
 module _ {L : Type 0} (κ : Kind L) (g : Graph) (laws : Lawful κ) (k : ℕ) (l : L) (s t : State L) (p : Declined Better κ g k l s t) (i : Invariants κ g s) where
   accounted : Accounted κ g laws s t i p.steady
   accounted j m h = elim (more_only p.taken h) [
-    | inl e ↦ inr (omega (arith, p.loses, ap (λ (x : Message L). κ.rank x.carried) e, ap (λ (x : Message L). κ.rank (s.label (link_at g x.along).to)) e))
+    | inl e ↦ inr (omega (arith, ap (λ (x : Message L). κ.rank x.carried) e, ap (λ (x : Message L). κ.rank (s.label (link_at g x.along).to)) e))
     | inr r ↦ inl r
   ]
 
   resting : Resting κ g t
   resting w h f = elim (ℕ_discrete w (link_at g k).to) [
-    | yes e ↦ (let z : ◌≡◌ {A = ℕ} 0 1 = cc (ap t.active e, p.active) in absurd (omega arith))
+    | yes e ↦ cc p.active
     | no n ↦ p.next w ∙ i.resting w h (sym (p.others w n) ∙ f)
   ]
 
@@ -56,7 +56,7 @@ module _ {L : Type 0} (κ : Kind L) (g : Graph) (laws : Lawful κ) (k : ℕ) (l 
   declined_keeps = record {
     rooted = steady_rooted κ g laws p.steady i.rooted;
     carried = λ x h. carried_on κ g laws s t i p.steady x (i.carried x (more_keeps p.taken h));
-    relaxed = λ j h b. still_relaxed κ g laws s t i p.steady accounted j h (omega (arith, b, p.next (link_at g j).from));
+    relaxed = λ j h b. still_relaxed κ g laws s t i p.steady accounted j h (omega (arith, p.next (link_at g j).from));
     resting = resting;
   }
 
@@ -67,7 +67,7 @@ module _ {L : Type 0} (κ : Kind L) (g : Graph) (laws : Lawful κ) (s t : State 
   pub stayed_keeps : Invariants κ g t
   stayed_keeps = record {
     rooted = steady_rooted κ g laws steady i.rooted;
-    carried = λ x h. carried_on κ g laws s t i steady x (i.carried x (subst (Memᴰ x) p.waiting h));
-    relaxed = λ k h b. still_relaxed κ g laws s t i steady (all_wait κ g laws s t i steady p.waiting) k h (omega (arith, b, (p.nodes (link_at g k).from).next));
+    carried = λ x h. carried_on κ g laws s t i steady x (i.carried x (rw p.waiting at h));
+    relaxed = λ k h b. still_relaxed κ g laws s t i steady (all_wait κ g laws s t i steady p.waiting) k h (omega (arith, (p.nodes (link_at g k).from).next));
     resting = λ w h f. (p.nodes w).next ∙ i.resting w h (sym (p.nodes w).active ∙ f);
   }

@@ -1,5 +1,5 @@
 -- Lists with one element more.
-use Rattle.std.proofs.Common.{◌≡◌, ◌⊎◌, List, ◌∷◌, ◌++◌, sym, refl, subst, inl, inr}
+use Rattle.std.proofs.Common.{◌≡◌, ◌⊎◌, List, ◌∷◌, ◌++◌, refl, inl, inr}
 use mathlib.Core.List.Memᴰ
 use mathlib.Core.List.{Memᴰ}
 use Rattle.routing.specs.Protocol.{OneMore}
@@ -7,11 +7,11 @@ use Rattle.routing.specs.Protocol.{OneMore}
 module _ {A : Type 0} {x : A} {xs ys : List A} (o : OneMore x xs ys) where
   -- the longer list has the element
   pub more_has : Memᴰ x ys
-  more_has = subst (Memᴰ x) (sym o.with) (Memᴰ.append_right o.front (Memᴰ.head refl))
+  more_has = rw o.with (Memᴰ.append_right o.front (Memᴰ.head refl))
 
   -- and all elements of the shorter
   pub more_keeps : {y : A} → Memᴰ y xs → Memᴰ y ys
-  more_keeps {y} h = subst (Memᴰ y) (sym o.with) (go (Memᴰ.append_cases o.front (subst (Memᴰ y) o.without h)))
+  more_keeps {y} h = rw o.with (go (Memᴰ.append_cases o.front (rw o.without at h)))
     where
       go : Memᴰ y o.front ⊎ Memᴰ y o.back → Memᴰ y (o.front ++ (x ∷ o.back))
       go (inl p) = Memᴰ.append_left (x ∷ o.back) p
@@ -19,10 +19,10 @@ module _ {A : Type 0} {x : A} {xs ys : List A} (o : OneMore x xs ys) where
 
   -- and no others
   pub more_only : {y : A} → Memᴰ y ys → (y ≡ x) ⊎ Memᴰ y xs
-  more_only {y} h = go (Memᴰ.append_cases o.front (subst (Memᴰ y) o.with h))
+  more_only {y} h = go (Memᴰ.append_cases o.front (rw o.with at h))
     where
       back : Memᴰ y (o.front ++ o.back) → Memᴰ y xs
-      back p = subst (Memᴰ y) (sym o.without) p
+      back p = rw o.without p
 
       tail : (y ≡ x) ⊎ Memᴰ y o.back → (y ≡ x) ⊎ Memᴰ y xs
       tail (inl e) = inl e

@@ -1,5 +1,5 @@
 -- Steps that can be made, each with the state after it, where at most one message waits.
-use Rattle.std.proofs.Common.{◌≡◌, ℕ, suc, ◌<◌, ◌≤◌, Bool, true, false, cond, eqb, ◌≢◌, [], ◌∷◌, length, Some, refl, ap, arith}
+use Rattle.std.proofs.Common.{◌≡◌, ℕ, suc, ◌<◌, ◌≤◌, true, false, if◌then◌else◌, nat_eq, ◌≢◌, [], ◌∷◌, length, Some, refl, arith}
 use Rattle.std.proofs.lemmas.Bool.{eq-eqb, ne_eqb}
 use Rattle.label.specs.Kinds.{Kind}
 use Rattle.label.specs.Paths.{Graph, link_at}
@@ -8,13 +8,13 @@ use Rattle.routing.specs.Protocol.{Adopted, Declined, Sent, Idled}
 
 -- f, but x at v
 abbrev pub at_node : {A : Type 0} → ℕ → A → (ℕ → A) → ℕ → A
-at_node v x f w = cond (eqb w v) x (f w)
+at_node v x f w = if nat_eq w v then x else f w
 
 at_there : {A : Type 0} (v : ℕ) (x : A) (f : ℕ → A) → at_node v x f v ≡ x
-at_there v x f = ap (λ (b : Bool). cond b x (f v)) (eq-eqb v v refl)
+at_there v x f = rw (eq-eqb v v refl)
 
 pub at_others : {A : Type 0} (v : ℕ) (x : A) (f : ℕ → A) (w : ℕ) → w ≢ v → at_node v x f w ≡ f w
-at_others v x f w n = ap (λ (b : Bool). cond b x (f w)) (ne_eqb w v n)
+at_others v x f w n = rw (ne_eqb w v n)
 
 module _ (Wins : ℕ → ℕ → Type 0) {L : Type 0} (κ : Kind L) (g : Graph) (k : ℕ) (l : L) (s : State L) where
   -- the message arrives and its label is adopted

@@ -1,7 +1,6 @@
 -- An opened state keeps the invariants.
-use Rattle.std.proofs.Common.{◌≡◌, ℕ, ◌<◌, List, [], Some, sym, ap, ◌∙◌, subst, inl, inr, arith}
+use Rattle.std.proofs.Common.{ℕ, ◌<◌, List, [], sym, ap, ◌∙◌, inl, inr, arith}
 use mathlib.Core.List.Memᴰ
-use mathlib.Core.List.{Memᴰ}
 use native.Mathlib.Decide.{ℕ_discrete}
 use Rattle.label.specs.Kinds.{Kind, Lawful}
 use Rattle.label.specs.Paths.{Graph, link_at}
@@ -23,16 +22,13 @@ module _ {L : Type 0} (κ : Kind L) (g : Graph) (laws : Lawful κ) (ok : Accepte
   -- The root has still to send on all its links; from any other node a link makes none of none, and nothing is worse.
   relaxed : Relaxed κ g s.label s.next s.waiting
   relaxed k h b = elim (ℕ_discrete (link_at g k).from g.root) [
-    | yes e ↦ absurd (omega (arith, ap s.next e, o.root_next))
+    | yes e ↦ absurd (omega (arith, ap s.next e))
     | no n ↦ inl (omega (arith, laws.worst (s.label (link_at g k).to), ap (λ (x : L). κ.rank (κ.extend x (link_at g k))) (o.label _ (ok.from_in k h) n), ap κ.rank (none_stays κ laws (link_at g k))))
   ]
 
-  no_parent : (v k : ℕ) → v < g.nodes → s.parent v ≡ Some k → ⊥
-  no_parent v k h e = let z : ◌≡◌ {A = ℕ} 0 1 = cc (o.parent v h) in omega arith
-
   resting : Resting κ g s
   resting v h a = elim (ℕ_discrete v g.root) [
-    | yes e ↦ (let z : ◌≡◌ {A = ℕ} 0 1 = cc (ap s.active e, o.root_active) in absurd (omega arith))
+    | yes e ↦ cc o.root_active
     | no n ↦ o.next v h n
   ]
 
@@ -42,10 +38,10 @@ module _ {L : Type 0} (κ : Kind L) (g : Graph) (laws : Lawful κ) (ok : Accepte
       root_label = o.root_label;
       root_parent = o.parent g.root ok.root_in;
       made = made;
-      linked = λ v k h e. absurd (no_parent v k h e);
+      linked = λ v k h e. cc (o.parent v h);
       up = up;
     };
-    carried = λ x h. absurd (Memᴰ.not-nil (subst (Memᴰ x) o.waiting h));
+    carried = λ x h. absurd (Memᴰ.not-nil (rw o.waiting at h));
     relaxed = relaxed;
     resting = resting;
   }

@@ -8,7 +8,7 @@ use Rattle.routing.specs.States.{Message, State}
 use Rattle.routing.specs.Protocol.{Sent, Idled}
 use Rattle.routing.proofs.Lists.{more_has, more_keeps, more_only}
 use Rattle.routing.proofs.Accepted.{Accepted}
-use Rattle.routing.proofs.Invariant.{FromPath, Carried, LinkRelaxed, Relaxed, Resting, Invariants, made_extend, steady_rooted}
+use Rattle.routing.proofs.Invariant.{Carried, LinkRelaxed, Relaxed, Resting, Invariants, made_extend, steady_rooted}
 use Rattle.routing.proofs.Keeping.{carried_on, from_rank, still_relaxed, all_wait}
 
 module _ {L : Type 0} (κ : Kind L) (g : Graph) (laws : Lawful κ) (ok : Accepted g) (v k : ℕ) (l : L) (s t : State L) (p : Sent κ g v k l s t) (i : Invariants κ g s) where
@@ -19,12 +19,12 @@ module _ {L : Type 0} (κ : Kind L) (g : Graph) (laws : Lawful κ) (ok : Accepte
   fresh : Carried κ g s.label (record { along = k; carried = l })
   fresh = record {
     real = p.real;
-    made = subst (FromPath κ g (link_at g k).to) sender (made_extend κ g laws k _ p.real (i.rooted.made _ (ok.from_in k p.real)));
+    made = rw sender at (made_extend κ g laws k _ p.real (i.rooted.made _ (ok.from_in k p.real)));
     late = omega (arith, ap κ.rank sender);
   }
 
   carried : (x : Message L) → Memᴰ x t.waiting → Carried κ g t.label x
-  carried x h = carried_on κ g laws s t i p.steady x (elim (more_only p.put h) [ inl e ↦ subst (Carried κ g s.label) (sym e) fresh | inr r ↦ i.carried x r ])
+  carried x h = carried_on κ g laws s t i p.steady x (elim (more_only p.put h) [ inl e ↦ rw e fresh | inr r ↦ i.carried x r ])
 
   old : (j : ℕ) → j < length g.links → j < s.next (link_at g j).from → LinkRelaxed κ g t.label t.waiting j
   old = still_relaxed κ g laws s t i p.steady (λ j m h. inl (more_keeps p.put h))
@@ -33,14 +33,14 @@ module _ {L : Type 0} (κ : Kind L) (g : Graph) (laws : Lawful κ) (ok : Accepte
   -- link leaves the node, since k was the first that does.
   relaxed : Relaxed κ g t.label t.next t.waiting
   relaxed j h b = elim (ℕ_discrete (link_at g j).from v) [
-    | no n ↦ old j h (omega (arith, b, p.others (link_at g j).from n))
+    | no n ↦ old j h (omega (arith, p.others (link_at g j).from n))
     | yes e ↦ elim (dec_lt j (s.next (link_at g j).from)) [
       | yes before ↦ old j h before
       | no past ↦ elim (ℕ_discrete j k) [
         | yes f ↦
             let waits = subst (λ (x : ℕ). Memᴰ (record { along = x; carried = l }) t.waiting) (sym f) (more_has p.put) in
             inr (l, waits, omega (arith, ap κ.rank sender, ap (λ (x : ℕ). κ.rank (κ.extend (s.label (link_at g x).from) (link_at g x))) f, from_rank κ g laws s t i p.steady j))
-        | no other ↦ absurd (p.first j (omega (arith, past, ap s.next e)) (omega (arith, b, ap t.next e, p.next, other)) e)
+        | no other ↦ absurd (p.first j (omega (arith, ap s.next e)) (omega (arith, ap t.next e)) e)
       ]
     ]
   ]
@@ -48,7 +48,7 @@ module _ {L : Type 0} (κ : Kind L) (g : Graph) (laws : Lawful κ) (ok : Accepte
   -- The sender was active and is.
   resting : Resting κ g t
   resting w h f = elim (ℕ_discrete w v) [
-    | yes e ↦ (let z : ◌≡◌ {A = ℕ} 0 1 = cc (ap t.active e, p.active v, p.was_active) in absurd (omega arith))
+    | yes e ↦ cc (p.active v, p.was_active)
     | no n ↦ p.others w n ∙ i.resting w h (sym (p.active w) ∙ f)
   ]
 
@@ -62,10 +62,10 @@ module _ {L : Type 0} (κ : Kind L) (g : Graph) (laws : Lawful κ) (v : ℕ) (s 
   -- A link before the node's old next link was relaxed, and is; from there on no link leaves the node.
   all_relaxed : Relaxed κ g t.label t.next t.waiting
   all_relaxed j h b = elim (ℕ_discrete (link_at g j).from v) [
-    | no n ↦ still j h (omega (arith, b, (p.others (link_at g j).from n).0))
+    | no n ↦ still j h (omega (arith, (p.others (link_at g j).from n).0))
     | yes e ↦ elim (dec_lt j (s.next (link_at g j).from)) [
       | yes before ↦ still j h before
-      | no past ↦ absurd (p.done j (omega (arith, past, ap s.next e)) (omega arith) e)
+      | no past ↦ absurd (p.done j (omega (arith, ap s.next e)) (omega arith) e)
     ]
   ]
 
@@ -78,7 +78,7 @@ module _ {L : Type 0} (κ : Kind L) (g : Graph) (laws : Lawful κ) (v : ℕ) (s 
   pub idled_keeps : Invariants κ g t
   idled_keeps = record {
     rooted = steady_rooted κ g laws p.steady i.rooted;
-    carried = λ x h. carried_on κ g laws s t i p.steady x (i.carried x (subst (Memᴰ x) p.waiting h));
+    carried = λ x h. carried_on κ g laws s t i p.steady x (i.carried x (rw p.waiting at h));
     relaxed = all_relaxed;
     resting = rests;
   }

@@ -1,6 +1,6 @@
 -- Two common mistakes, each refuted by a case; beside the first, the right rule in the same case.
 use Rattle.std.specs.Prelude.{◌≡◌, ℕ, ◌+◌, ◌*◌, ◌<◌, ◌≤◌, List, [], ◌∷◌, length, Some}
-use Rattle.std.proofs.Common.{arith}
+use Rattle.std.proofs.Math.Facts.{leb_yes}
 use Rattle.mesh.specs.declared.link.Link.{Link}
 use Rattle.label.specs.declared.cost.Cost.{Cost}
 use Rattle.label.specs.declared.width.Width.{Width}
@@ -66,26 +66,13 @@ widest_then_cheapest = record {
   extend = λ a l. (width_kind.extend a.0 l, cost_kind.extend a.1 l);
 }
 
--- the numbers of the example are in range
-pub ten_fits : 10 ≤ 65535
-ten_fits = omega arith
-
-pub five_fits : 5 ≤ 65535
-five_fits = omega arith
-
-pub two_fits : 2 ≤ 4294967295
-two_fits = omega arith
-
-pub one_fits : 1 ≤ 4294967295
-one_fits = omega arith
-
 -- width 10 at cost 2
 abbrev pub wide : Width × Cost
-wide = (width_of 10 ten_fits, cost_of 2 two_fits)
+wide = (width_of 10 (leb_yes tt), cost_of 2 (leb_yes tt))
 
 -- width 5 at cost 1
 abbrev pub cheap : Width × Cost
-cheap = (width_of 5 five_fits, cost_of 1 one_fits)
+cheap = (width_of 5 (leb_yes tt), cost_of 1 (leb_yes tt))
 
 -- a link of width 5
 abbrev pub narrow : Link

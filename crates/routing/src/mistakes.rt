@@ -11,6 +11,7 @@ const REST: u8 = 9;
 const WIDTH: u16 = 5;
 
 /// Adopting an equal label closes a cycle of parents, which never lead to the root. Answers after how many steps.
+#[tactic(auto, using(crate::proofs::Cycle::cycle_after))]
 pub fn equal_label_mistake() -> u8
     ensures { CycleAfter result }
 {
@@ -19,6 +20,7 @@ pub fn equal_label_mistake() -> u8
 
 /// With the right rule the same mesh comes to rest, and the node keeps the link from the root as its parent. Answers after
 /// how many steps.
+#[tactic(auto, using(crate::proofs::Cycle::rest_after))]
 pub fn equal_label_declined() -> u8
     ensures { RestAfter result }
 {

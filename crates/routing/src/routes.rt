@@ -19,6 +19,8 @@ pub fn best_routes<K: Label>() -> K
     K::start()
 }
 
+// The calls at the two kinds: a kind's laws are the premise of the theorem, and here it stands without one.
+
 /// The cost that the root keeps, 0; the routes found are the cheapest.
 pub fn cheapest_routes() -> Cost
     ensures root { result.metric ≡ 0 }

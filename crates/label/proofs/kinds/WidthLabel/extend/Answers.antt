@@ -1,6 +1,0 @@
-use Rattle.std.proofs.Common.{◌∙◌}
-use Rattle.label.specs.Laws.{width_same}
-use Rattle.label.proofs.kinds.WidthLabel.extend.Goals as goal
-
-pub returns : goal.returns
-returns c = width_same _ _ (c.of.ensures ∙ c.min.ensures)

@@ -1,5 +1,0 @@
-use Rattle.label.specs.Laws.{width_same}
-use Rattle.label.proofs.kinds.WidthLabel.start.Goals as goal
-
-pub returns : goal.returns
-returns c = width_same _ _ c.of.ensures
