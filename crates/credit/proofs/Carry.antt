@@ -1,68 +1,42 @@
--- The carrying of one credit, place by place.
-use Rattle.std.proofs.Common.{◌≡◌, ℕ, ◌+◌, ◌-◌, ◌<◌, ◌≤◌, Bool, true, false, List, length, get_or, set, sym, refl, ap, ◌∙◌, inl, inr, arith}
-use Rattle.std.proofs.lemmas.List.{length-set, get_or-set_same, get_or-set_other}
-use Rattle.std.proofs.lemmas.Bool.{cases_eq}
-use Rattle.credit.specs.Places.{value, whole, credit_of, Added}
-use Rattle.credit.specs.ValuesLemmas.{whole_taken, credit_some}
+-- One more credit at a set of places.
+use Rattle.std.proofs.Common.{◌≡◌, ℕ, ◌+◌, ◌-◌, ◌≤◌, Bool, true, false, List, length, get_or, set, take, replicate, Some, None, IsSome, IsTrue, All, sym, refl, ◌∙◌, arith}
+use Rattle.std.specs.Prelude.{Option, MatchOption}
+use Rattle.std.proofs.lemmas.Grind.{common_steps}
+use Rattle.std.proofs.lemmas.List.{get_or-take, length-take-le}
+use borrow.Rule.Slice.PartMut.{mid_of, put_mid}
+use Rattle.credit.specs.Places.{value, whole, credit_of, IsLastFree, Added}
+use Rattle.credit.specs.ValuesLemmas.{whole_taken, whole_sum, credit_some}
 
--- One credit at place e has been carried to place p: the places after p up to e were taken and are free now, and every
--- other place is as it was.
-pub record Carried (before : List Bool) (e p : ℕ) (after : List Bool) : Type 0 where
-  pub up_to : p ≤ e
-  pub were_taken : (k : ℕ) → p < k → k ≤ e → get_or before k false ≡ true
-  pub are_free : (k : ℕ) → p < k → k ≤ e → get_or after k false ≡ false
-  pub same_before : (k : ℕ) → k ≤ p → get_or after k false ≡ get_or before k false
-  pub same_beyond : (k : ℕ) → e < k → get_or after k false ≡ get_or before k false
-  pub size : length after ≡ length before
+-- The first e + 1 of 1,001 places, where i is the exponent e as an index.
+module _ (ps : List Bool) (e i : ℕ) (long : length ps ≡ 1001) (few : e ≤ 1000) (same : i ≡ e) where
+  up_to : length (take (i + 1) ps) ≡ i + 1
+  up_to = length-take-le (i + 1) ps (omega arith)
 
--- at first it is at place e, and nothing has changed
-pub carried_none : (ps : List Bool) (e : ℕ) → Carried ps e e ps
-carried_none ps e = record {
-  up_to = omega arith;
-  were_taken = λ k lo hi. absurd (omega arith);
-  are_free = λ k lo hi. absurd (omega arith);
-  same_before = λ k lo. refl;
-  same_beyond = λ k lo. refl;
-  size = refl;
-}
+  -- The last free one of them is taken, and those after it are freed: the credit has been added.
+  taken_last : (p : ℕ) (qs : List Bool) → IsLastFree (take (i + 1) ps) p → qs ≡ replicate (length (mid_of (p + 1) (i + 1 - (p + 1)) (set ps p true))) false → Added ps e (put_mid (p + 1) (i + 1 - (p + 1)) (set ps p true) qs)
+  taken_last p qs free is =
+      let low : p ≤ e = omega (arith, free.inside, up_to) in
+      record {
+        place = p;
+        up_to = low;
+        was_free = sym (get_or-take (i + 1) ps p false (omega arith)) ∙ free.is_free;
+        were_taken = λ k lo hi. sym (get_or-take (i + 1) ps k false (omega arith)) ∙ free.rest_taken k lo (omega (arith, up_to));
+        is_taken = grind (arith, common_steps);
+        are_free = λ k lo hi. grind (arith, common_steps);
+        same_before = λ k lo. grind (arith, common_steps);
+        same_beyond = λ k lo. grind (arith, common_steps);
+        size = grind (arith, common_steps);
+      }
 
-module _ (ps : List Bool) (e p : ℕ) (qs : List Bool) (c : Carried ps e p qs) (few : p < length ps) where
-  -- Place p is taken: it is freed, and the credit carried to the place before.
-  pub carried_more : 0 < p → get_or qs p false ≡ true → Carried ps e (p - 1) (set qs p false)
-  carried_more pos on = record {
-    up_to = omega (arith, c.up_to);
-    were_taken = λ k lo hi. elim (cases_eq k p) [
-      | inl at ↦ ap (λ j. get_or ps j false) at ∙ sym (c.same_before p (omega arith)) ∙ on
-      | inr ne ↦ c.were_taken k (omega (arith, ne)) hi
-    ];
-    are_free = λ k lo hi. elim (cases_eq k p) [
-      | inl at ↦ ap (λ j. get_or (set qs p false) j false) at ∙ get_or-set_same qs p false false (omega (arith, c.size))
-      | inr ne ↦ get_or-set_other qs p k false false ne ∙ c.are_free k (omega (arith, ne)) hi
-    ];
-    same_before = λ k lo. get_or-set_other qs p k false false (λ at. absurd (omega (arith, at))) ∙ c.same_before k (omega arith);
-    same_beyond = λ k lo. get_or-set_other qs p k false false (λ at. absurd (omega (arith, at, c.up_to))) ∙ c.same_beyond k lo;
-    size = length-set qs p false ∙ c.size;
-  }
+  -- The same from what the search answers, and what it does to the sum.
+  pub added : (o : Option ℕ) (p : ℕ) (qs : List Bool) → o ≡ Some p → MatchOption o (All IsTrue (take (i + 1) ps)) (IsLastFree (take (i + 1) ps)) → qs ≡ replicate (length (mid_of (p + 1) (i + 1 - (p + 1)) (set ps p true))) false →
+      let after = put_mid (p + 1) (i + 1 - (p + 1)) (set ps p true) qs in Added ps e after × (value after ≡ value ps + credit_of e)
+  added o p qs found free is = let a = taken_last p qs (rw found at free) is in (a, whole_sum ps long _ e few a)
 
-  -- Place p is free: it is taken, and the credit has been added.
-  pub carried_all : get_or qs p false ≡ false → Added ps e (set qs p true)
-  carried_all off = record {
-    place = p;
-    up_to = c.up_to;
-    was_free = sym (c.same_before p (omega arith)) ∙ off;
-    were_taken = c.were_taken;
-    is_taken = get_or-set_same qs p true false (omega (arith, c.size));
-    are_free = λ k lo hi. get_or-set_other qs p k true false (λ at. absurd (omega (arith, at))) ∙ c.are_free k lo hi;
-    same_before = λ k lo. get_or-set_other qs p k true false (λ at. absurd (omega (arith, at))) ∙ c.same_before k (omega arith);
-    same_beyond = λ k lo. get_or-set_other qs p k true false (λ at. absurd (omega (arith, at, c.up_to))) ∙ c.same_beyond k lo;
-    size = length-set qs p true ∙ c.size;
-  }
-
-  -- Where the sum is at most one, a taken place p is not place 0: place 0 would have been taken from the first, so the
-  -- value would have been one already, with no room for a credit.
-  pub carried_past : length ps ≡ 1001 → value ps + credit_of e ≤ whole → get_or qs p false ≡ true → 0 < p
-  carried_past long room on = elim (cases_eq p 0) [
-    | inl at ↦ (let first : get_or ps 0 false ≡ true = sym (c.same_before 0 (omega arith)) ∙ ap (λ j. get_or qs j false) (sym at) ∙ on in
-        absurd (omega (arith, whole_taken ps long first, credit_some e, room)))
-    | inr ne ↦ omega (arith, ne)
-  ]
+  -- Where the sum with one more credit is at most one, one of them is free: with place 0 taken the value is one already,
+  -- with no room for a credit.
+  pub some_free : (o : Option ℕ) → value ps + credit_of e ≤ whole → MatchOption o (All IsTrue (take (i + 1) ps)) (IsLastFree (take (i + 1) ps)) → IsSome o
+  some_free None room all =
+      let first : get_or ps 0 false ≡ true = sym (get_or-take (i + 1) ps 0 false (omega arith)) ∙ all 0 false (omega (arith, up_to)) in
+      absurd (omega (arith, whole_taken ps long first, credit_some e))
+  some_free (Some p) room free = refl

@@ -2,11 +2,12 @@
 use Rattle.std.proofs.Common.{◌≡◌, ℕ, zero, suc, ◌+◌, ◌<◌, ◌≤◌, true, false, eqb, List, [], ◌∷◌, get_or, replicate, is_some, sym, refl, ap, ◌∙◌, inl, inr, le_of_eq, arith}
 use Rattle.std.specs.List.{AllByRecursion}
 use Rattle.std.proofs.lemmas.Bool.{both_ways, cases_eq, true≢false, eq-eqb, ne_eqb, or_from, or_left}
+use Rattle.detector.specs.Tables.{replicated}
 use Rattle.credit.specs.declared.credit.Credit.{Credit}
 use Rattle.credit.specs.Places.{value, whole, credit_of, Added}
 use Rattle.credit.specs.Meaning.{is_last}
 use Rattle.credit.specs.Worked.{among, Exactly, Worked}
-use Rattle.credit.specs.ValuesLemmas.{value_none, whole_sum, credit_whole, replicated}
+use Rattle.credit.specs.ValuesLemmas.{value_none, whole_sum, credit_whole}
 use Rattle.credit.proofs.Values.{value_some, whole_room, whole_closed}
 
 -- a place above all of these is not one of them
@@ -28,7 +29,7 @@ first_credit d e few only = record {
   are_free = λ k lo hi. absurd (omega arith);
   same_before = λ k lo. only k ∙ below_all e k lo ∙ sym (replicated 1001 k false);
   same_beyond = λ k lo. only k ∙ above_all (e ∷ []) k (lo, tt) ∙ sym (replicated 1001 k false);
-  size = d.width;
+  size = d.recovered.width;
 }
 
 place_worth : (d : Credit) (e : ℕ) → e ≤ 1000 → Exactly d (e ∷ []) → value d.recovered.taken ≡ credit_of e
@@ -69,7 +70,7 @@ one_to_four (suc (suc (suc (suc (suc k))))) low high = absurd (omega arith)
 -- Places 1 to 4, and one more credit at place 4: the sum is one, and the last free place up to 4 is place 0.
 module _ (d : Credit) (only : Exactly d (1 ∷ 2 ∷ 3 ∷ 4 ∷ [])) where
   four_fit : value d.recovered.taken + credit_of 4 ≤ whole
-  four_fit = le_of_eq (whole_closed d.recovered.taken d.width 4 (only 0) (omega arith)
+  four_fit = le_of_eq (whole_closed d.recovered.taken d.recovered.width 4 (only 0) (omega arith)
       (λ k low high. only k ∙ one_to_four k low high)
       (λ k low high. only k ∙ above_all (1 ∷ 2 ∷ 3 ∷ 4 ∷ []) k (omega arith, (omega arith, (omega arith, (omega arith, tt))))))
 
@@ -87,12 +88,12 @@ pub cases : Worked
 cases = record {
   worth = place_worth;
   carried = λ d only. (
-    ((omega arith, whole_room d.recovered.taken d.width 1 2 (only 0) (omega arith) (omega arith) (omega arith) (only 1)), tt),
+    ((omega arith, whole_room d.recovered.taken d.recovered.width 1 2 (only 0) (omega arith) (omega arith) (omega arith) (only 1)), tt),
     λ item e s. carried_one d e only s.added,
   );
   announced = λ d only. (((omega arith, four_fit d only), tt), λ item e s. carried_first d only e s.added);
   above_one = λ d only. inl
-      (λ fits. no_room (value d.recovered.taken) (credit_of 0) (value_some d.recovered.taken 1 (omega (arith, d.width)) (only 1)) credit_whole fits.1, refl);
+      (λ fits. no_room (value d.recovered.taken) (credit_of 0) (value_some d.recovered.taken 1 (omega (arith, d.recovered.width)) (only 1)) credit_whole fits.1, refl);
   last_sent = λ d node lt held. (
     (lt, (ap is_some held, (ap is_last held, tt))),
     λ mark e s. let same : s.exponent ≡ 999 = cc (s.held, held) in omega (arith, s.raised, same),

@@ -1,3 +1,4 @@
 pub mod Values
 pub mod Carry
+pub mod Parts
 pub mod Cases

@@ -5,8 +5,16 @@ use Rattle.std.proofs.Math.Logic.{inl, inr}
 use Rattle.std.proofs.Math.Nat.{two-pow-succ}
 use Rattle.std.proofs.lemmas.Bool.{cases_Bool, cases_lt}
 use Rattle.std.proofs.lemmas.List.{length-drop, get_or-drop, get_or_past}
-use Rattle.credit.specs.Places.{value, whole, credit_of, AllTaken, NoneBeyond}
+use Rattle.credit.specs.Places.{value, whole, credit_of}
 use Rattle.credit.specs.ValuesLemmas.{place_most, when_taken, when_free, value_below, value_none, value_full}
+
+-- all places from 1 to e are taken
+abbrev pub AllTaken : List Bool → ℕ → Type 0
+AllTaken ps e = (k : ℕ) → 1 ≤ k → k ≤ e → slice_index_or ps k false ≡ true
+
+-- all places beyond e are free
+abbrev pub NoneBeyond : List Bool → ℕ → Type 0
+NoneBeyond ps e = (k : ℕ) → e < k → k ≤ 1000 → slice_index_or ps k false ≡ false
 
 -- Some place taken: some value.
 pub value_some : (ps : List Bool) (k : ℕ) → k < length ps → slice_index_or ps k false ≡ true → 0 < value ps

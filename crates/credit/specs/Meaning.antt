@@ -1,5 +1,5 @@
 -- What the credit detector means: what it shows, and its balance, by which all credit together is one.
-use Rattle.std.specs.Prelude.{◌≡◌, ℕ, ◌+◌, ◌≤◌, Bool, false, List, length, get_or, is_some, Some, None, sum_by, count_by, All, Option, nat_le, slice_index_or}
+use Rattle.std.specs.Prelude.{◌≡◌, ℕ, ◌+◌, ◌≤◌, Bool, false, List, length, is_some, Some, None, sum_by, count_by, All, Option, nat_le, slice_index_or}
 use Rattle.detector.specs.Meaning.{Meaning}
 use Rattle.credit.specs.declared.credit.Credit.{Credit}
 use Rattle.credit.specs.Holdings.{holding}
@@ -36,7 +36,7 @@ PossibleMark mark = (1 ≤ mark) × (mark ≤ 1000)
 pub record Balanced (d : Credit) (marks items : List ℕ) : Type 0 where
   pub sum : all_held d + credits marks + credits items + value d.recovered.taken ≡ whole
   -- past the nodes nothing is held
-  pub none_past : (k : ℕ) → d.nodes ≤ k → (get_or d.holders.records k (holding None)).held ≡ None
+  pub none_past : (k : ℕ) → d.nodes ≤ k → (slice_index_or d.holders.records k (holding None)).held ≡ None
   -- no exponent is above 1,000
   pub held_within : (node e : ℕ) → held_by d node ≡ Some e → e ≤ 1000
   pub marks_within : All PossibleMark marks

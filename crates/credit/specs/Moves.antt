@@ -1,5 +1,5 @@
 -- What a call does that changes what one node holds: to the other nodes, to the sums, and to the balance.
-use Rattle.std.specs.Prelude.{◌≡◌, ℕ, ◌+◌, ◌<◌, ◌≤◌, Bool, cond, ◌≢◌, List, length, get_or, is_some, Some, None, sum_by, All, Option, nat_lt, slice_index_or, slice_set}
+use Rattle.std.specs.Prelude.{◌≡◌, ℕ, ◌+◌, ◌<◌, ◌≤◌, Bool, if◌then◌else◌, ◌≢◌, List, length, is_some, Some, None, sum_by, All, Option, nat_lt, slice_index_or, slice_set}
 use Rattle.std.proofs.Common.{sym, ap, ◌∙◌, inl, inr, arith}
 use Rattle.std.proofs.lemmas.List.{get_or-set_same, get_or-set_other}
 use Rattle.std.proofs.lemmas.List.Sums.{sum_by-set, sum_by-cons}
@@ -13,7 +13,7 @@ use Rattle.credit.specs.Rules.{held_by, Holds}
 use Rattle.credit.specs.Meaning.{credit_in, holder_count, credits, PossibleMark, Balanced, credit_meaning}
 
 -- the record of a node that is there says what it holds
-pub held_there : (d : Credit) (node : ℕ) → node < d.nodes → held_by d node ≡ (get_or d.holders.records node (holding None)).held
+pub held_there : (d : Credit) (node : ℕ) → node < d.nodes → held_by d node ≡ (slice_index_or d.holders.records node (holding None)).held
 held_there d node lt = cond-true (nat_lt node d.nodes) _ None (lt-ltb node d.nodes lt)
 
 -- a node that is not there holds nothing
@@ -22,14 +22,14 @@ held_past d node past = cond-false (nat_lt node d.nodes) _ None (le-ltb node d.n
 
 -- the same number of nodes and the same record: the same exponent
 held_like : (d e : Credit) (k : ℕ) → e.nodes ≡ d.nodes → slice_index_or e.holders.records k (holding None) ≡ slice_index_or d.holders.records k (holding None) → held_by e k ≡ held_by d k
-held_like d e k size same = ap (λ n. cond (nat_lt k n) (get_or e.holders.records k (holding None)).held None) size ∙ ap (λ h. cond (nat_lt k d.nodes) h.held None) same
+held_like d e k size same = ap (λ n. if nat_lt k n then (slice_index_or e.holders.records k (holding None)).held else None) size ∙ ap (λ h. if nat_lt k d.nodes then h.held else None) same
 
 pub held_same : (d e : Credit) → e.nodes ≡ d.nodes → e.holders.records ≡ d.holders.records → (k : ℕ) → held_by e k ≡ held_by d k
-held_same d e size records k = held_like d e k size (ap (λ rs. get_or rs k (holding None)) records)
+held_same d e size records k = held_like d e k size (ap (λ rs. slice_index_or rs k (holding None)) records)
 
 -- One if something is held.
 abbrev pub one_in : Option ℕ → ℕ
-one_in o = cond (is_some o) 1 0
+one_in o = if is_some o then 1 else 0
 
 -- From d to e the node changes to o what it holds, and nothing else changes.
 module _ (d e : Credit) (node : ℕ) (o : Option ℕ) (inside : node < d.nodes) (h : Holds d e node o) where
@@ -39,12 +39,12 @@ module _ (d e : Credit) (node : ℕ) (o : Option ℕ) (inside : node < d.nodes) 
   pub held_here : held_by e node ≡ o
   held_here =
       held_there e node (omega (arith, h.nodes, inside))
-      ∙ ap (λ rs. (get_or rs node (holding None)).held) h.records
+      ∙ ap (λ rs. (slice_index_or rs node (holding None)).held) h.records
       ∙ ap (λ r. r.held) (get_or-set_same d.holders.records node (holding o) (holding None) within)
 
   pub held_other : (k : ℕ) → k ≢ node → held_by e k ≡ held_by d k
   held_other k ne = held_like d e k h.nodes
-      (ap (λ rs. get_or rs k (holding None)) h.records ∙ get_or-set_other d.holders.records node k (holding o) (holding None) ne)
+      (ap (λ rs. slice_index_or rs k (holding None)) h.records ∙ get_or-set_other d.holders.records node k (holding o) (holding None) ne)
 
   -- Any sum over what the nodes hold changes by what this node adds to it.
   sum_changes : (f : Option ℕ → ℕ) → sum_by (λ r. f r.held) e.holders.records + f (held_by d node) ≡ sum_by (λ r. f r.held) d.holders.records + f o
@@ -66,7 +66,7 @@ module _ (d e : Credit) (node : ℕ) (o : Option ℕ) (inside : node < d.nodes) 
     sum = omega (arith, b.sum, sum_changes credit_in, flow, ap (λ ps. value ps.taken) h.recovered);
     none_past = λ k past.
         let out : d.nodes ≤ k = omega (arith, h.nodes, past) in
-        ap (λ rs. (get_or rs k (holding None)).held) h.records
+        ap (λ rs. (slice_index_or rs k (holding None)).held) h.records
         ∙ ap (λ r. r.held) (get_or-set_other d.holders.records node k (holding o) (holding None) (λ at. omega (arith, at, inside, out)))
         ∙ b.none_past k out;
     held_within = λ k x is. elim (cases_eq k node) [

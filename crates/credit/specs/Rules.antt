@@ -1,12 +1,12 @@
 -- The rules of credit recovery: what each call does to the state, and what it answers.
-use Rattle.std.specs.Prelude.{◌≡◌, ℕ, ◌+◌, false, cond, get_or, replicate, Some, None, Option, nat_lt, slice_index_or, slice_set}
+use Rattle.std.specs.Prelude.{◌≡◌, ℕ, ◌+◌, false, if◌then◌else◌, replicate, Some, None, Option, nat_lt, slice_index_or, slice_set}
 use Rattle.credit.specs.declared.credit.Credit.{Credit}
 use Rattle.credit.specs.Holdings.{holding}
 use Rattle.credit.specs.Places.{Added}
 
 -- the exponent that a node holds; nothing for a passive node, and for one that is not there
 abbrev pub held_by : Credit → ℕ → Option ℕ
-held_by d node = cond (nat_lt node d.nodes) (get_or d.holders.records node (holding None)).held None
+held_by d node = if nat_lt node d.nodes then (slice_index_or d.holders.records node (holding None)).held else None
 
 -- The node holds o after, and nothing else has changed.
 pub record Holds (before after : Credit) (node : ℕ) (o : Option ℕ) : Type 0 where

@@ -1,28 +1,29 @@
 -- The credit detector keeps the laws of a detector.
-use Rattle.std.specs.Prelude.{◌≡◌, ℕ, suc, ◌+◌, ◌<◌, ◌≤◌, true, false, ◌≢◌, List, [], ◌∷◌, length, get_or, replicate, is_some, Some, None, sum_by, All, Option, slice_index_or, slice_set, refl}
+use Rattle.std.specs.Prelude.{◌≡◌, ℕ, suc, ◌+◌, ◌<◌, ◌≤◌, true, false, ◌≢◌, List, [], ◌∷◌, length, replicate, is_some, Some, None, sum_by, All, Option, slice_index_or, slice_set, refl}
 use Rattle.std.proofs.Common.{sym, ap, subst, ◌∙◌, inl, inr, arith}
 use Rattle.std.specs.List.Sorted.{IsPermutation}
 use Rattle.std.proofs.lemmas.List.{get_or_past, get_or-set_same, get_or-set_other, length-replicate}
 use Rattle.std.proofs.lemmas.List.Sums.{get_or-le-sum_by, sum_by-cons, sum_by-set}
 use Rattle.std.proofs.lemmas.List.Elements.{All-nil, All-cons, All-head, All-tail}
 use Rattle.std.proofs.lemmas.List.Sorted.{All-permutation, sum_by-IsPermutation, length_permutation}
-use Rattle.std.proofs.lemmas.Bool.{both_ways, cases_Bool, cases_lt, cases_eq, leb-false}
+use Rattle.std.proofs.lemmas.Bool.{cases_Bool, cases_lt, cases_eq, leb-false}
 use Rattle.fault.specs.Checks.{Passes}
 use Rattle.detector.specs.Calls.{sent_checks, received_checks, idled_checks}
 use Rattle.detector.specs.Laws.{with_answer, answered, AllPassive, Fresh, Sending, Receiving, Idling, Controlling, StillBalanced, Over, Lawful}
+use Rattle.detector.specs.Tables.{replicated, sum_of_nothing}
 use Rattle.credit.specs.declared.holders.Holder.{Holder}
 use Rattle.credit.specs.declared.credit.Credit.{Credit}
 use Rattle.credit.specs.Holdings.{holding}
 use Rattle.credit.specs.Places.{value, whole, credit_of}
 use Rattle.credit.specs.Rules.{held_by, Opened, Sent, kept, returned, Received, Idled, Recovered}
 use Rattle.credit.specs.Meaning.{credit_in, all_held, holder_count, credits, is_last, PossibleMark, Balanced, credit_meaning}
-use Rattle.credit.specs.ValuesLemmas.{whole_taken, whole_free, whole_sum, value_none, credit_whole, credit_halves, credit_some, replicated}
+use Rattle.credit.specs.ValuesLemmas.{whole_taken, whole_free, whole_sum, value_none, credit_whole, credit_halves, credit_some}
 use Rattle.credit.specs.Moves.{held_there, held_past, held_same, one_in, count_changes, balance_kept, turned, stays, answer_credits}
 
 -- not some exponent: none
 unheld : (o : Option ℕ) → is_some o ≡ false → o ≡ None
 unheld None e = refl
-unheld (Some x) e = absurd (both_ways true e refl)
+unheld (Some x) e = cc
 
 -- whatever is held has some credit
 no_credit : (o : Option ℕ) → credit_in o ≡ 0 → o ≡ None
@@ -34,9 +35,8 @@ no_credits [] e = refl
 no_credits (x ∷ es) e = absurd (omega (arith, sum_by-cons credit_of x es, credit_some x, e))
 
 -- Sums over records that hold nothing are 0.
-none_held : (f : Option ℕ → ℕ) → f None ≡ 0 → (rs : List Holder) → ((k : ℕ) → (get_or rs k (holding None)).held ≡ None) → sum_by (λ r. f r.held) rs ≡ 0
-none_held f zeros [] none = refl
-none_held f zeros (r ∷ rs) none = omega (arith, sum_by-cons (λ r. f r.held) r rs, ap f (none 0), zeros, none_held f zeros rs (λ k. none (suc k)))
+none_held : (f : Option ℕ → ℕ) → f None ≡ 0 → (rs : List Holder) → ((k : ℕ) → (slice_index_or rs k (holding None)).held ≡ None) → sum_by (λ r. f r.held) rs ≡ 0
+none_held f zeros rs none = sum_of_nothing (λ r. f r.held) rs (holding None) (λ k. ap f (none k) ∙ zeros)
 
 -- Sent: half of the node's credit stays with it, and half goes with the mark. So the credit of the node and of what waits
 -- together is as before, and the node is as active as it was.
@@ -109,7 +109,7 @@ idling d e node item passes s =
     λ marks items b. record {
       balanced = balance_kept d e node None inside s.holds marks items marks (x ∷ items) b
           (omega (arith, was, sum_by-cons credit_of x items))
-          (λ y is. let z : ◌≡◌ {A = ℕ} 0 1 = cc in absurd (omega arith))
+          (λ y is. cc)
           b.marks_within
           (All-cons (λ i. i ≤ 1000) x items (b.held_within node x s.held) b.items_within);
       owing = omega (arith, count_changes d e node None inside s.holds, ap one_in s.held);
@@ -126,8 +126,8 @@ controlling d e taken item few s =
     let moved : (marks items : List ℕ) → Balanced d marks (taken ∷ items) → StillBalanced credit_meaning e marks items (length marks + holder_count d) None =
     λ marks items b. record {
       balanced = record {
-        sum = omega (arith, b.sum, ap (sum_by (λ r. credit_in r.held)) s.records, sum_by-cons credit_of taken items, whole_sum d.recovered.taken d.width e.recovered.taken taken few s.added);
-        none_past = λ k past. ap (λ rs. (get_or rs k (holding None)).held) s.records ∙ b.none_past k (omega (arith, s.nodes, past));
+        sum = omega (arith, b.sum, ap (sum_by (λ r. credit_in r.held)) s.records, sum_by-cons credit_of taken items, whole_sum d.recovered.taken d.recovered.width e.recovered.taken taken few s.added);
+        none_past = λ k past. ap (λ rs. (slice_index_or rs k (holding None)).held) s.records ∙ b.none_past k (omega (arith, s.nodes, past));
         held_within = λ k x is. b.held_within k x (sym (held k) ∙ is);
         marks_within = b.marks_within;
         items_within = All-tail (λ i. i ≤ 1000) taken items b.items_within;
@@ -142,7 +142,7 @@ controlling d e taken item few s =
 -- Opened: the root holds the whole credit, and nothing else holds or has recovered any.
 module _ (nodes root : ℕ) (d : Credit) (inside : root < nodes) (s : Opened nodes root d) where
   -- nobody holds anything before the root does
-  blank_none : (k : ℕ) → (get_or (replicate 64 (holding None)) k (holding None)).held ≡ None
+  blank_none : (k : ℕ) → (slice_index_or (replicate 64 (holding None)) k (holding None)).held ≡ None
   blank_none k = ap (λ r. r.held) (replicated 64 k (holding None))
 
   root_within : root < length (replicate 64 (holding None))
@@ -151,12 +151,12 @@ module _ (nodes root : ℕ) (d : Credit) (inside : root < nodes) (s : Opened nod
   root_holds : held_by d root ≡ Some 0
   root_holds =
       held_there d root (omega (arith, s.size, inside))
-      ∙ ap (λ rs. (get_or rs root (holding None)).held) s.records
+      ∙ ap (λ rs. (slice_index_or rs root (holding None)).held) s.records
       ∙ ap (λ r. r.held) (get_or-set_same (replicate 64 (holding None)) root (holding (Some 0)) (holding None) root_within)
 
-  rest_record : (k : ℕ) → k ≢ root → (get_or d.holders.records k (holding None)).held ≡ None
+  rest_record : (k : ℕ) → k ≢ root → (slice_index_or d.holders.records k (holding None)).held ≡ None
   rest_record k ne =
-      ap (λ rs. (get_or rs k (holding None)).held) s.records
+      ap (λ rs. (slice_index_or rs k (holding None)).held) s.records
       ∙ ap (λ r. r.held) (get_or-set_other (replicate 64 (holding None)) root k (holding (Some 0)) (holding None) ne)
       ∙ blank_none k
 
@@ -194,8 +194,7 @@ module _ (nodes root : ℕ) (d : Credit) (inside : root < nodes) (s : Opened nod
       held_within = λ k x is. elim (cases_eq k root) [
         | inl at ↦ (let zero_is : ◌≡◌ {A = Option ℕ} (Some 0) (Some x) = sym root_holds ∙ ap (held_by d) (sym at) ∙ is in
             let same : 0 ≡ x = cc zero_is in omega (arith, same))
-        | inr ne ↦ (let none_is : ◌≡◌ {A = Option ℕ} None (Some x) = sym (rest_holds k ne) ∙ is in
-            let z : ◌≡◌ {A = ℕ} 0 1 = cc none_is in absurd (omega arith))
+        | inr ne ↦ (let none_is : ◌≡◌ {A = Option ℕ} None (Some x) = sym (rest_holds k ne) ∙ is in cc none_is)
       ];
       marks_within = All-nil PossibleMark;
       items_within = All-nil (λ i. i ≤ 1000);
@@ -227,12 +226,12 @@ any_order d marks items others rest ms is b = (
 -- whatever is held or waits has some credit. So nothing is held, and nothing waits.
 never_too_soon : (d : Credit) (marks items : List ℕ) → Balanced d marks items → slice_index_or d.recovered.taken 0 false ≡ true → Over credit_meaning d marks items
 never_too_soon d marks items b on =
-    let full : whole ≤ value d.recovered.taken = whole_taken d.recovered.taken d.width on in
+    let full : whole ≤ value d.recovered.taken = whole_taken d.recovered.taken d.recovered.width on in
     let total = b.sum in
     let poor : all_held d ≡ 0 = omega arith in
     let rs = d.holders.records in
-    let none : (k : ℕ) → (get_or rs k (holding None)).held ≡ None = λ k. elim (cases_lt k (length rs)) [
-      | inl lt ↦ no_credit (get_or rs k (holding None)).held (omega (arith, get_or-le-sum_by (λ r. credit_in r.held) rs k (holding None) lt, poor))
+    let none : (k : ℕ) → (slice_index_or rs k (holding None)).held ≡ None = λ k. elim (cases_lt k (length rs)) [
+      | inl lt ↦ no_credit (slice_index_or rs k (holding None)).held (omega (arith, get_or-le-sum_by (λ r. credit_in r.held) rs k (holding None) lt, poor))
       | inr past ↦ ap (λ r. r.held) (get_or_past rs k (holding None) past)
     ] in
     let no_marks : marks ≡ [] = no_credits marks (omega arith) in
@@ -248,13 +247,13 @@ never_too_soon d marks items b on =
 never_missed : (d : Credit) → Balanced d [] [] → AllPassive credit_meaning d → slice_index_or d.recovered.taken 0 false ≡ true
 never_missed d b passive =
     let rs = d.holders.records in
-    let none : (k : ℕ) → (get_or rs k (holding None)).held ≡ None = λ k. elim (cases_lt k d.nodes) [
+    let none : (k : ℕ) → (slice_index_or rs k (holding None)).held ≡ None = λ k. elim (cases_lt k d.nodes) [
       | inl lt ↦ sym (held_there d k lt) ∙ unheld (held_by d k) (passive k lt)
       | inr past ↦ b.none_past k past
     ] in
     elim (cases_Bool (slice_index_or d.recovered.taken 0 false)) [
       | inl on ↦ on
-      | inr off ↦ absurd (omega (arith, whole_free d.recovered.taken d.width off, b.sum, none_held credit_in refl rs none))
+      | inr off ↦ absurd (omega (arith, whole_free d.recovered.taken d.recovered.width off, b.sum, none_held credit_in refl rs none))
     ]
 
 pub credit_lawful : Lawful credit_meaning

@@ -1,6 +1,6 @@
 -- Lemmas for the law that the detector keeps: sets of places as binary numbers, where what is taken and free decides how the
 -- value compares with one. Proofs alone, with nothing to believe: they stand here since the law is given in src/.
-use Rattle.std.specs.Prelude.{◌≡◌, ℕ, zero, suc, ◌+◌, ◌-◌, ◌^◌, ◌<◌, ◌≤◌, Bool, true, false, List, [], ◌∷◌, length, get_or, drop, replicate, slice_index_or, refl}
+use Rattle.std.specs.Prelude.{◌≡◌, ℕ, zero, suc, ◌+◌, ◌-◌, ◌^◌, ◌<◌, ◌≤◌, Bool, true, false, List, [], ◌∷◌, length, drop, slice_index_or, refl}
 use Rattle.std.proofs.Common.{sym, ap, ◌∙◌, arith, pow_pos}
 use Rattle.std.proofs.Math.Nat.{two-pow-succ}
 use Rattle.std.proofs.lemmas.List.{length-drop, get_or-drop}
@@ -122,11 +122,11 @@ module _ (n : ℕ) where
 
 -- The same of the 1,001 places of the detector.
 module _ (ps : List Bool) (long : length ps ≡ 1001) where
-  pub whole_taken : get_or ps 0 false ≡ true → whole ≤ value ps
+  pub whole_taken : slice_index_or ps 0 false ≡ true → whole ≤ value ps
   unfolding whole
   whole_taken = first_taken 1000 ps long
 
-  pub whole_free : get_or ps 0 false ≡ false → value ps < whole
+  pub whole_free : slice_index_or ps 0 false ≡ false → value ps < whole
   unfolding whole
   whole_free = first_free 1000 ps long
 
@@ -146,9 +146,3 @@ credit_halves e lt =
 
 pub credit_some : (e : ℕ) → 0 < credit_of e
 credit_some e = pow_pos (1000 - e)
-
--- One value repeated: that value at each place, and past the last.
-pub replicated : {A : Type 0} (n k : ℕ) (a : A) → slice_index_or (replicate n a) k a ≡ a
-replicated zero k a = refl
-replicated (suc n) zero a = refl
-replicated (suc n) (suc k) a = replicated n k a

@@ -1,19 +1,16 @@
 //! The state of the credit detector.
 ghost use Rattle.std.specs.Prelude.{◌≡◌, ◌≤◌, length};
-ghost use Rattle.credit.specs.Places.{value, whole};
 
 use crate::holders::Holders;
 use crate::places::Places;
 
 /// A termination detector that gives each active node and each message on its way a share of one credit, and announces
 /// once it has recovered all of it. Exponent e stands for a credit of 1/2 to the power e.
-#[derive(Drop)]
+#[derive(PartialEq, Eq, Hash, Debug, Drop)]
 pub struct Credit {
     pub(crate) nodes: u16,
     pub(crate) holders: Holders,
     pub(crate) recovered: Places,
     ghost few: { nodes ≤ 64 },
     ghost room: { length holders.records ≡ 64 },
-    ghost width: { length recovered.taken ≡ 1001 },
-    ghost part: { value recovered.taken ≤ whole },
 }

@@ -5,6 +5,4 @@ pub mod credit;
 mod holders;
 mod places;
 pub mod recovery;
-#[cfg(test)]
-mod tests;
 pub mod worked;

@@ -1,11 +1,13 @@
 //! The recovered credit, as a set of places.
-ghost use Rattle.std.specs.Prelude.{◌≡◌, ◌+◌, ◌≤◌, false, length, replicate, Decides, MatchBool};
-ghost use Rattle.credit.specs.Places.{value, whole, credit_of, SomeFree, AllTaken, SomeBeyond, NoneBeyond, Added};
+ghost use Rattle.std.specs.Prelude.{◌≡◌, ◌+◌, ◌≤◌, ◌↔◌, false, length, replicate, IsTrue, MatchOption, All};
+ghost use Rattle.credit.specs.Places.{value, whole, credit_of, IsLastFree, Added};
 
-/// A set of the places 0 to 1,000, of which place e is worth the credit of exponent e.
-#[derive(Drop)]
+/// A set of the places 0 to 1,000, of which place e is worth the credit of exponent e, and all together at most one.
+#[derive(PartialEq, Eq, Hash, Debug, Drop)]
 pub struct Places {
     pub taken: [bool; 1001],
+    ghost width: { length taken ≡ 1001 },
+    ghost part: { value taken ≤ whole },
 }
 
 impl Places {
@@ -18,61 +20,35 @@ impl Places {
         }
     }
 
-    // Whether a place from 1 to e is free.
-    fn has_free(&self, e: u16) -> bool
-        requires { e ≤ 1000 }
-        ensures { MatchBool result (SomeFree self.now.taken e) (AllTaken self.now.taken e) }
-    {
-        for k in 1..e as usize + 1 {
-            if !self.taken[k] {
-                return true;
-            }
-        }
-        false
-    }
-
-    // Whether a place beyond e is taken.
-    fn has_beyond(&self, e: u16) -> bool
-        requires { e ≤ 1000 }
-        ensures { MatchBool result (SomeBeyond self.now.taken e) (NoneBeyond self.now.taken e) }
-    {
-        for k in e as usize + 1..1001 {
-            if self.taken[k] {
-                return true;
-            }
-        }
-        false
-    }
-
     // Whether the sum with one more credit is at most one. A free place from 1 to e ends the carrying before it comes to
     // place 0. Where there is none it takes place 0, which is one already, so nothing else may be left.
     pub fn fits(&self, e: u16) -> bool
-        requires small { e ≤ 1000 }
-        requires size { length self.now.taken ≡ 1001 }
-        ensures { Decides result (value self.now.taken + credit_of e ≤ whole) }
+        requires { e ≤ 1000 }
+        ensures { IsTrue result ↔ (value self.now.taken + credit_of e ≤ whole) }
     {
-        if self.taken[0] {
-            return false;
-        }
-        if self.has_free(e) {
-            return true;
-        }
-        !self.has_beyond(e)
+        let e = usize::from(e);
+        !self.taken[0]
+            && (self.taken[1..=e].contains(&false) || !self.taken[e + 1..].contains(&true))
     }
 
-    // One more credit: a place already taken is freed, and its credit carried to the place before it.
+    // One more credit: the nearest free place towards place 0 is taken, and those passed on the way are freed. There is
+    // one, since with all of them taken the sum would be more than one.
     pub fn add(&mut self, e: u16)
         requires small { e ≤ 1000 }
-        requires size { length self.old.taken ≡ 1001 }
         requires room { value self.old.taken + credit_of e ≤ whole }
         ensures places { Added self.old.taken e self.new.taken }
         ensures sum { value self.new.taken ≡ value self.old.taken + credit_of e }
     {
-        let mut p = e as usize;
-        while self.taken[p] {
-            self.taken[p] = false;
-            p -= 1;
-        }
-        self.taken[p] = true;
+        let e = usize::from(e);
+        let free = last_free(&self.taken[..=e]).unwrap();
+        self.taken[free] = true;
+        self.taken[free + 1..=e].fill(false);
     }
+}
+
+// The last free one of these places.
+fn last_free(places: &[bool]) -> Option<usize>
+    ensures { MatchOption result (All IsTrue places.now) (IsLastFree places.now) }
+{
+    places.iter().rposition(|taken| !*taken)
 }

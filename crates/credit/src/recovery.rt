@@ -1,8 +1,8 @@
 //! The calls of the credit detector.
-ghost use Rattle.std.specs.Prelude.{◌≡◌, ℕ, ◌+◌, ◌≤◌, true, false, Decides, OnOk, slice_index_or};
+ghost use Rattle.std.specs.Prelude.{◌≡◌, ℕ, ◌+◌, ◌≤◌, ◌↔◌, true, false, IsTrue, OnOk, slice_index_or};
 ghost use Rattle.detector.specs.Calls.{Controls};
 ghost use Rattle.credit.specs.Places.{value, whole, credit_of};
-ghost use Rattle.credit.specs.Rules.{held_by, kept, returned};
+ghost use Rattle.credit.specs.Rules.{held_by};
 ghost use Rattle.credit.specs.Meaning.{credit_meaning};
 ghost use Rattle.credit.specs.Soundness.{credit_lawful};
 
@@ -11,7 +11,7 @@ use crate::holders::Holders;
 use crate::places::Places;
 use detector::detector::Detector;
 use detector::faults::DetectorFault;
-use detector::size::check_size;
+use detector::size::{check_node, check_size};
 
 // The greatest exponent.
 const GREATEST: u16 = 1000;
@@ -21,40 +21,19 @@ impl Credit {
     pub fn held(&self, node: u16) -> Option<u16>
         ensures { result ≡ held_by self.now node }
     {
-        if node >= self.nodes {
-            return None;
-        }
-        self.holders.held(node)
+        self.holders.records[..usize::from(self.nodes)]
+            .get(usize::from(node))
+            .and_then(|record| record.held)
     }
 
     /// Whether the place is among the recovered ones; none is beyond 1,000.
     pub fn is_recovered(&self, place: u16) -> bool
         ensures { result ≡ slice_index_or self.now.recovered.taken place false }
     {
-        if place > GREATEST {
-            return false;
-        }
-        self.recovered.taken[place as usize]
-    }
-}
-
-// What a node holds once a message with this mark has arrived, by what it held before.
-fn kept_exponent(held: Option<u16>, mark: u16) -> Option<u16>
-    ensures { result ≡ kept held mark }
-{
-    match held {
-        None => Some(mark),
-        Some(e) => Some(e),
-    }
-}
-
-// The item that it answers to the message, by what it held before.
-fn returned_item(held: Option<u16>, mark: u16) -> Option<u16>
-    ensures { result ≡ returned held mark }
-{
-    match held {
-        None => None,
-        Some(_) => Some(mark),
+        self.recovered
+            .taken
+            .get(usize::from(place))
+            .is_some_and(|taken| *taken)
     }
 }
 
@@ -75,45 +54,31 @@ impl Detector for Credit {
     }
 
     fn sent(&mut self, node: u16) -> Result<u16, DetectorFault> {
-        if node >= self.nodes {
-            return Err(DetectorFault::NoNode);
+        check_node(self.nodes, node)?;
+        let exponent = self.held(node).ok_or(DetectorFault::Passive)?;
+        if exponent >= GREATEST {
+            return Err(DetectorFault::Spent);
         }
-        match self.holders.held(node) {
-            None => Err(DetectorFault::Passive),
-            Some(exponent) => {
-                if exponent >= GREATEST {
-                    return Err(DetectorFault::Spent);
-                }
-                let mark = exponent + 1;
-                self.holders.hold(node, Some(mark));
-                Ok(mark)
-            }
-        }
+        let mark = exponent + 1;
+        self.holders.hold(node, Some(mark));
+        Ok(mark)
     }
 
     fn received(&mut self, node: u16, mark: u16) -> Result<Option<u16>, DetectorFault> {
-        if node >= self.nodes {
-            return Err(DetectorFault::NoNode);
-        }
-        if mark < 1 || mark > GREATEST {
+        check_node(self.nodes, node)?;
+        if !(1..=GREATEST).contains(&mark) {
             return Err(DetectorFault::BadMark);
         }
-        let held = self.holders.held(node);
-        self.holders.hold(node, kept_exponent(held, mark));
-        Ok(returned_item(held, mark))
+        let held = self.held(node);
+        self.holders.hold(node, held.or(Some(mark)));
+        Ok(held.and(Some(mark)))
     }
 
     fn idled(&mut self, node: u16) -> Result<Option<u16>, DetectorFault> {
-        if node >= self.nodes {
-            return Err(DetectorFault::NoNode);
-        }
-        match self.holders.held(node) {
-            None => Err(DetectorFault::Passive),
-            Some(exponent) => {
-                self.holders.hold(node, None);
-                Ok(Some(exponent))
-            }
-        }
+        check_node(self.nodes, node)?;
+        let exponent = self.held(node).ok_or(DetectorFault::Passive)?;
+        self.holders.hold(node, None);
+        Ok(Some(exponent))
     }
 
     // Beside the rule: the value of the recovered places grows by the credit of the item.
@@ -121,10 +86,7 @@ impl Detector for Credit {
         ensures rule { Controls credit_meaning self.old item result self.new }
         ensures sum { OnOk result (value self.new.recovered.taken ≡ value self.old.recovered.taken + credit_of item) }
     {
-        if item > GREATEST {
-            return Err(DetectorFault::BadItem);
-        }
-        if !self.recovered.fits(item) {
+        if item > GREATEST || !self.recovered.fits(item) {
             return Err(DetectorFault::BadItem);
         }
         self.recovered.add(item);
@@ -136,16 +98,13 @@ impl Detector for Credit {
     }
 
     fn is_spent(&self, node: u16) -> bool {
-        match self.held(node) {
-            None => false,
-            Some(exponent) => exponent >= GREATEST,
-        }
+        self.held(node).is_some_and(|exponent| exponent >= GREATEST)
     }
 
     // Beside the rule: announced is that one is recovered, and then no other place is taken.
     fn has_announced(&self) -> bool
         ensures place { result ≡ credit_meaning.announced self.now }
-        ensures one { Decides result (value self.now.recovered.taken ≡ whole) }
+        ensures one { IsTrue result ↔ (value self.now.recovered.taken ≡ whole) }
         ensures alone { result ≡ true → (k : ℕ) → 1 ≤ k → slice_index_or self.now.recovered.taken k false ≡ false }
     {
         self.recovered.taken[0]

@@ -35,10 +35,18 @@ abbrev pub Answers : {A D : Type 0} → List (Check DetectorFault) → D → (A 
 Answers checks before rule (Ok a) after = Passes checks × rule a after
 Answers checks before rule (Err f) after = Fails checks f × (after ≡ before)
 
+-- the answer of checks alone
+abbrev pub Checked : List (Check DetectorFault) → Result (Unit {0}) DetectorFault → Type 0
+Checked checks (Ok u) = Passes checks
+Checked checks (Err f) = Fails checks f
+
 -- the answer to whether a detector can have that many nodes with that root
 abbrev pub SizedFor : ℕ → ℕ → Result (Unit {0}) DetectorFault → Type 0
-SizedFor nodes root (Ok u) = Passes (open_checks nodes root)
-SizedFor nodes root (Err f) = Fails (open_checks nodes root) f
+SizedFor nodes root = Checked (open_checks nodes root)
+
+-- the answer to whether a detector of that many nodes has this one
+abbrev pub IsThere : ℕ → ℕ → Result (Unit {0}) DetectorFault → Type 0
+IsThere nodes node = Checked (check NoNode (node < nodes) ∷ [])
 
 -- the answer of the call that makes a detector
 abbrev pub Opens : {D : Type 0} → Meaning D → ℕ → ℕ → Result D DetectorFault → Type 0

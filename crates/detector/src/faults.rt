@@ -1,9 +1,12 @@
 //! Why a detector refuses.
-ghost use Rattle.std.specs.Prelude.{◌≡◌};
-ghost use Rattle.detector.specs.Faults.{detector_fault_number};
+ghost use Rattle.std.specs.Prelude.{◌≡◌, Some};
+ghost use Rattle.detector.specs.Faults.{detector_fault_number, detector_fault_text};
+
+use std::error::Error;
+use std::fmt;
 
 /// Why a detector refuses a call.
-#[derive(Clone, Copy, PartialEq, Eq, Debug)]
+#[derive(Clone, Copy, PartialEq, Eq, Hash, Debug)]
 pub enum DetectorFault {
     /// Opened with a number of nodes outside 1 to 64, or with a root that is no node.
     Size,
@@ -34,3 +37,20 @@ impl DetectorFault {
         }
     }
 }
+
+impl fmt::Display for DetectorFault {
+    ghost output = { λ f. Some (detector_fault_text f) };
+
+    fn fmt<W: fmt::Write>(&self, f: &mut fmt::Formatter<W>) -> fmt::Result {
+        f.write_str(match self {
+            DetectorFault::Size => "bad number of nodes or bad root",
+            DetectorFault::NoNode => "no such node",
+            DetectorFault::Passive => "the node is passive",
+            DetectorFault::BadMark => "impossible mark",
+            DetectorFault::BadItem => "impossible control item",
+            DetectorFault::Spent => "the node is spent",
+        })
+    }
+}
+
+impl Error for DetectorFault {}

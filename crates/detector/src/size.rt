@@ -1,5 +1,5 @@
-//! How many nodes a detector can have.
-ghost use Rattle.detector.specs.Calls.{SizedFor};
+//! How many nodes a detector can have, and which numbers are nodes of it.
+ghost use Rattle.detector.specs.Calls.{SizedFor, IsThere};
 
 use crate::faults::DetectorFault;
 
@@ -13,6 +13,16 @@ pub fn check_size(nodes: u16, root: u16) -> Result<(), DetectorFault>
 {
     if nodes > MOST_NODES || root >= nodes {
         return Err(DetectorFault::Size);
+    }
+    Ok(())
+}
+
+/// Whether a detector of that many nodes has this one: refused exactly if it is not there.
+pub fn check_node(nodes: u16, node: u16) -> Result<(), DetectorFault>
+    ensures { IsThere nodes node result }
+{
+    if node >= nodes {
+        return Err(DetectorFault::NoNode);
     }
     Ok(())
 }

@@ -5,7 +5,7 @@ use crate::detector::Detector;
 use crate::faults::DetectorFault;
 
 /// What a detector can be told.
-#[derive(Clone, Copy)]
+#[derive(Clone, Copy, PartialEq, Eq, Hash, Debug)]
 pub enum Call {
     /// The node sends a message.
     Sent(u16),
@@ -22,7 +22,7 @@ pub fn make<D: Detector>(d: &mut D, call: Call) -> Result<Option<u16>, DetectorF
     ensures { Makes D.meaning d.old call result d.new }
 {
     match call {
-        Call::Sent(node) => Ok(Some(d.sent(node)?)),
+        Call::Sent(node) => d.sent(node).map(Some),
         Call::Received(node, mark) => d.received(node, mark),
         Call::Idled(node) => d.idled(node),
         Call::Control(item) => d.control(item),

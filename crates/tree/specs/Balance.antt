@@ -1,5 +1,5 @@
 -- What the tree means as a detector.
-use Rattle.std.specs.Prelude.{◌≡◌, ℕ, ◌+◌, ◌<◌, ◌≤◌, Bool, true, false, cond, not, ◌&&◌, List, length, Some, None, sum_by, Option, ◌==◌, nat_lt}
+use Rattle.std.specs.Prelude.{◌≡◌, ℕ, ◌+◌, ◌<◌, ◌≤◌, Bool, true, false, if◌then◌else◌, not, ◌&&◌, List, length, Some, None, sum_by, Option, ◌==◌, nat_lt}
 use Rattle.detector.specs.Meaning.{Meaning}
 use Rattle.tree.specs.declared.node.Node.{Node}
 use Rattle.tree.specs.declared.node.Event.TheVariants.{Received, Idled, Control}
@@ -9,7 +9,7 @@ use Rattle.tree.specs.Steps.{at, HasDeficit, Opened, Sent, Happens}
 
 -- 1 where x is n, else 0
 abbrev pub hit : ℕ → ℕ → ℕ
-hit n x = cond (x == n) 1 0
+hit n x = if x == n then 1 else 0
 
 -- how often n stands in a list
 abbrev pub hits : ℕ → List ℕ → ℕ
@@ -17,7 +17,7 @@ hits n xs = sum_by (hit n) xs
 
 -- the parent of a node that is in the tree
 abbrev pub tree_parent : Node → Option ℕ
-tree_parent r = cond r.engaged r.parent None
+tree_parent r = if r.engaged then r.parent else None
 
 -- 1 where the parent is n, else 0
 abbrev pub parent_hit : ℕ → Option ℕ → ℕ

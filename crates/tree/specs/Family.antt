@@ -1,16 +1,14 @@
 -- Parents and children in a table.
-use Rattle.std.specs.Prelude.{◌≡◌, ℕ, suc, ◌+◌, ◌<◌, true, false, List, [], ◌∷◌, length, Some, None, Option, ◌≢◌, refl}
+use Rattle.std.specs.Prelude.{◌≡◌, ℕ, suc, ◌+◌, ◌<◌, true, false, List, [], ◌∷◌, length, Some, None, Option, refl}
 use Rattle.std.proofs.Common.{sym, ap, ◌∙◌, inl, inr, arith}
 use Rattle.std.proofs.lemmas.List.{get_or_past}
 use Rattle.std.proofs.lemmas.List.Sums.{get_or-le-sum_by, sum_by-cons}
 use Rattle.std.proofs.lemmas.Bool.{both_ways, cases_Bool, cases_lt, cases_eq, cond-false}
+use Rattle.detector.specs.Tables.{sum_of_nothing}
 use Rattle.tree.specs.declared.node.Node.{Node}
 use Rattle.tree.specs.Rules.{blank, node_at}
 use Rattle.tree.specs.Balance.{hit, hits, tree_parent, parent_hit, child, children, some_hit, has_parent, with_parent}
 use Rattle.tree.specs.Tables.{hit_same, hit_other, hits_cons}
-
-pub some≢none : (o : Option ℕ) (p : ℕ) → o ≡ Some p → o ≢ None
-some≢none o p e f = let z : ◌≡◌ {A = ℕ} 0 1 = cc in omega arith
 
 -- a node outside the tree has no parent in it
 pub outside_parent : (r : Node) → r.engaged ≡ false → tree_parent r ≡ None
@@ -18,7 +16,7 @@ outside_parent r free = cond-false r.engaged r.parent None free
 
 -- a node with a parent in the tree is in it
 pub child_engaged : (r : Node) (p : ℕ) → tree_parent r ≡ Some p → r.engaged ≡ true
-child_engaged r p e = elim (cases_Bool r.engaged) [ inl on ↦ on | inr free ↦ absurd (some≢none (tree_parent r) p e (outside_parent r free)) ]
+child_engaged r p e = elim (cases_Bool r.engaged) [ inl on ↦ on | inr free ↦ cc (e, outside_parent r free) ]
 
 -- what is in the tree stands in the table
 pub in_table : (rs : List Node) (k : ℕ) → (node_at rs k).engaged ≡ true → k < length rs
@@ -56,13 +54,7 @@ no_hits (x ∷ xs) h = absurd (omega (arith, h x, hits_cons x x xs, hit_same x))
 
 -- a table without parents has no with_parent and no children
 pub none_with_parent : (rs : List Node) → ((k : ℕ) → tree_parent (node_at rs k) ≡ None) → with_parent rs ≡ 0
-none_with_parent [] h = refl
-none_with_parent (r ∷ rs) h =
-    let none : has_parent r ≡ 0 = ap some_hit (h 0) in
-    omega (arith, sum_by-cons has_parent r rs, none, none_with_parent rs (λ k. h (suc k)))
+none_with_parent rs h = sum_of_nothing has_parent rs blank (λ k. ap some_hit (h k))
 
 pub no_children : (n : ℕ) (rs : List Node) → ((k : ℕ) → tree_parent (node_at rs k) ≡ None) → children n rs ≡ 0
-no_children n [] h = refl
-no_children n (r ∷ rs) h =
-    let none : child n r ≡ 0 = ap (parent_hit n) (h 0) in
-    omega (arith, sum_by-cons (child n) r rs, none, no_children n rs (λ k. h (suc k)))
+no_children n rs h = sum_of_nothing (child n) rs blank (λ k. ap (parent_hit n) (h k))

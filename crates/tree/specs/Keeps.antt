@@ -1,17 +1,17 @@
 -- Each call of the tree keeps the balance, over tables.
-use Rattle.std.specs.Prelude.{◌≡◌, ℕ, ◌+◌, ◌<◌, Bool, true, false, cond, not, ◌≢◌, List, [], ◌∷◌, length, set, replicate, Some, None, Option, ◌==◌, nat_eq, slice_set, refl}
+use Rattle.std.specs.Prelude.{◌≡◌, ℕ, ◌+◌, ◌<◌, Bool, true, false, if◌then◌else◌, not, ◌≢◌, List, [], ◌∷◌, length, set, Some, None, Option, ◌==◌, nat_eq, slice_set, refl}
 use Rattle.std.proofs.Common.{sym, ap, subst, ◌∙◌, inl, inr, arith}
-use Rattle.std.proofs.lemmas.List.{set-get_or, set-set, get_or-set_same, get_or-set_other, length-set, length-replicate, get_or-replicate, get_or_past}
+use Rattle.std.proofs.lemmas.List.{set-get_or, set-set, get_or-set_same, get_or-set_other, length-set}
 use Rattle.std.proofs.lemmas.Bool.{both_ways, true≢false, cond-true, cond-false, eq-eqb, ne_eqb, eqb-true, eqb-false, cases_lt, cases_eq, and_parts, and_from, not-true, not_from_false}
 use Rattle.detector.specs.Laws.{with_answer, answered}
 use Rattle.tree.specs.declared.node.Node.{Node}
 use Rattle.tree.specs.declared.node.Outcome.{Outcome}
-use Rattle.tree.specs.declared.node.Outcome.TheVariants.{Nothing, Left}
+use Rattle.tree.specs.declared.node.Outcome.TheVariants.{Left}
 use Rattle.tree.specs.Rules.{blank, first, node_at, raised, lowered, resting, woken, joining, left, done, settled, leaving}
 use Rattle.tree.specs.Steps.{signal_of, announced_by}
 use Rattle.tree.specs.Balance.{hit, hits, tree_parent, parent_hit, child, some_hit, has_parent, Fits, Loose, Waits, Balanced, owed}
 use Rattle.tree.specs.Tables.{each_set, hit_same, hit_other, hits_cons, with_parent_set, deficits_set}
-use Rattle.tree.specs.Family.{some≢none, outside_parent, child_counts, no_children, none_with_parent}
+use Rattle.tree.specs.Family.{outside_parent, child_counts, no_children, none_with_parent}
 use Rattle.tree.specs.Endings.{too_soon_never}
 
 pub by_bool : (b : Bool) (P : Bool → Type 0) → (b ≡ true → P true) → (b ≡ false → P false) → P b
@@ -24,7 +24,7 @@ Lands nodes root announced rs marks items owe item = Balanced nodes root announc
 
 -- the ranks once node i has joined below m
 abbrev raised_rank : (ℕ → ℕ) → ℕ → ℕ → ℕ → ℕ
-raised_rank rank i m k = cond (k == i) (rank m + 1) (rank k)
+raised_rank rank i m k = if k == i then rank m + 1 else rank k
 
 module _ (nodes root : ℕ) (announced : Bool) (rs : List Node) (i : ℕ) (lt : i < length rs) where
   -- Sent. The new mark names the sender, whose deficit has risen by one; nothing else of the tree changes.
@@ -86,7 +86,7 @@ module _ (nodes root : ℕ) (announced : Bool) (rs : List Node) (i : ℕ) (lt : 
       let lone_child : (n : ℕ) → child n r ≡ 0 = λ n. ap (parent_hit n) (outside_parent r free) in
       let not_root : i ≢ root = λ e.
       let rest : m ∷ marks ≡ [] = (too_soon_never nodes root announced rs (m ∷ marks) items b.loose (f.announces e ∙ ap not free)).1 in
-      let z : ◌≡◌ {A = ℕ} 0 1 = cc in omega arith in
+      cc in
       let apart : m ≢ i = λ e. let d : hits i (m ∷ marks) ≡ hits i (i ∷ marks) = ap (λ j. hits i (j ∷ marks)) e in
       omega (arith, old i, still, hits_cons i i marks, hit_same i, d) in
       let up : ℕ → ℕ = raised_rank rank i m in
@@ -109,7 +109,7 @@ module _ (nodes root : ℕ) (announced : Bool) (rs : List Node) (i : ℕ) (lt : 
               (record {
                 outside = λ e. absurd (true≢false e);
                 above = λ p e. let same : m ≡ p = cc in omega (arith, up_here, up_other m apart, ap up same);
-                parentless = λ _ e. absurd (some≢none (Some m) m refl e);
+                parentless = λ _ e. cc;
                 top = λ e. absurd (not_root e);
                 absent = λ far. absurd (omega arith);
                 announces = λ e. absurd (not_root e);
@@ -138,7 +138,7 @@ module _ (nodes root : ℕ) (announced : Bool) (rs : List Node) (i : ℕ) (lt : 
   left_fits : (rank : ℕ → ℕ) (a : Bool) → Ready → (i ≡ root → a ≡ true) → Fits nodes root a rank i (left (node_at rs i))
   left_fits rank a h tells = record {
     outside = λ _. (h.passive, h.empty);
-    above = λ q e. absurd (some≢none None q e refl);
+    above = λ q e. cc;
     parentless = λ e _. absurd (true≢false (sym e));
     top = λ _. refl;
     absent = λ _. refl;
@@ -190,8 +190,8 @@ module _ (nodes root : ℕ) (announced : Bool) (rs : List Node) (i : ℕ) (lt : 
   abbrev Settles : List ℕ → List ℕ → Bool → Bool → Type 0
   Settles marks items v top =
       let r = node_at rs i in
-      let o : Outcome = cond v Left Nothing in
-      Lands nodes root (announced_by top announced o) (slice_set rs i (cond v (left r) r)) marks items (owed rs marks) (signal_of top r.parent o)
+      let o : Option Outcome = if v then Some Left else None in
+      Lands nodes root (announced_by top announced o) (slice_set rs i (if v then left r else r)) marks items (owed rs marks) (signal_of top r.parent o)
 
   leaf_settles : (marks items : List ℕ) → i ≢ root → Ready → Loose nodes root announced rs marks items → ((k : ℕ) → k ≢ i → Waits (node_at rs k)) → (o : Option ℕ) → tree_parent (node_at rs i) ≡ o → Lands nodes root announced (slice_set rs i (left (node_at rs i))) marks items (owed rs marks) o
   leaf_settles marks items not_root h b others None e = absurd (not_root ((b.fits i).parentless h.on e))
@@ -280,15 +280,11 @@ module _ (nodes root : ℕ) (announced : Bool) (rs : List Node) (i : ℕ) (lt : 
       })
       b.waits
 
--- every record of a blank table is blank
-pub blank_at : (n k : ℕ) → node_at (replicate n blank) k ≡ blank
-blank_at n k = elim (cases_lt k n) [ inl lt ↦ get_or-replicate n k blank blank lt | inr past ↦ get_or_past (replicate n blank) k blank (rw (length-replicate n blank) past) ]
-
 module _ (nodes root : ℕ) (rs : List Node) (lt : root < length rs) (inside : root < nodes) (blanks : (k : ℕ) → node_at rs k ≡ blank) where
   blank_fits : (k : ℕ) → k ≢ root → Fits nodes root false (λ _. 0) k blank
   blank_fits k ne = record {
     outside = λ _. (refl, refl);
-    above = λ q e. absurd (some≢none None q e refl);
+    above = λ q e. cc;
     parentless = λ e _. absurd (true≢false (sym e));
     top = λ _. refl;
     absent = λ _. refl;
@@ -305,7 +301,7 @@ module _ (nodes root : ℕ) (rs : List Node) (lt : root < length rs) (inside : r
       rank = λ _. 0;
       fits = each_set (Fits nodes root false (λ _. 0)) rs root first lt (λ k ne. subst (Fits nodes root false (λ _. 0) k) (sym (blanks k)) (blank_fits k ne)) (record {
         outside = λ e. absurd (true≢false e);
-        above = λ q e. absurd (some≢none None q e refl);
+        above = λ q e. cc;
         parentless = λ _ _. refl;
         top = λ _. refl;
         absent = λ far. absurd (omega arith);

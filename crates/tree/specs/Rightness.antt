@@ -1,14 +1,15 @@
 -- The tree keeps the laws of a detector.
-use Rattle.std.specs.Prelude.{◌≡◌, ℕ, ◌+◌, ◌<◌, Bool, true, false, cond, ◌&&◌, List, [], ◌∷◌, length, replicate, Some, None, Option, ◌==◌, nat_lt, slice_set, refl}
+use Rattle.std.specs.Prelude.{◌≡◌, ℕ, ◌+◌, ◌<◌, Bool, true, false, if◌then◌else◌, ◌&&◌, List, [], ◌∷◌, length, replicate, Some, None, Option, ◌==◌, nat_lt, slice_set, refl}
 use Rattle.std.proofs.Common.{sym, ap, subst, ◌∙◌, inl, inr, arith}
 use Rattle.std.proofs.lemmas.List.{get_or-set_same, get_or-set_other}
 use Rattle.std.proofs.lemmas.Bool.{both_ways, cond_both, lt-ltb, le-ltb, and_from, and_parts, cases_lt, cases_Bool}
 use Rattle.fault.specs.Checks.{Passes}
 use Rattle.detector.specs.Calls.{open_checks, sent_checks, received_checks, idled_checks, control_checks}
 use Rattle.detector.specs.Laws.{AllPassive, Fresh, Same, Turned, StillBalanced, Sending, Receiving, Idling, Controlling, Over, Lawful}
+use Rattle.detector.specs.Tables.{replicated}
 use Rattle.tree.specs.declared.node.Node.{Node}
 use Rattle.tree.specs.declared.node.Event.TheVariants.{Received, Idled, Control}
-use Rattle.tree.specs.declared.node.Outcome.TheVariants.{Nothing, Signal}
+use Rattle.tree.specs.declared.node.Outcome.TheVariants.{Signal}
 use Rattle.tree.specs.declared.engagement.Tree.{Tree}
 use Rattle.tree.specs.Rules.{blank, first, node_at, raised, lowered, resting, woken, joining, left, done}
 use Rattle.tree.specs.Steps.{at, HasDeficit, Becomes, Opened, Sent, signal_of, announced_by, Happens}
@@ -16,7 +17,7 @@ use Rattle.tree.specs.Balance.{hits, has_parent, some_hit, Balanced, owed, tree_
 use Rattle.tree.specs.Tables.{each_set, with_parent_set, hits_cons, hit_same}
 use Rattle.tree.specs.Family.{outside_parent}
 use Rattle.tree.specs.Endings.{deficit_engaged, too_soon_never, missed_never, any_order}
-use Rattle.tree.specs.Keeps.{by_bool, Lands, sent_keeps, woken_keeps, joining_keeps, idled_keeps, control_keeps, blank_at, opened_balance, opened_owes}
+use Rattle.tree.specs.Keeps.{by_bool, Lands, sent_keeps, woken_keeps, joining_keeps, idled_keeps, control_keeps, opened_balance, opened_owes}
 
 -- What holds of a changed table holds of the tree that has it.
 becomes : (P : ℕ → ℕ → Bool → List Node → Type 0) (t u : Tree) (i : ℕ) (r : Node) (a : Bool) → Becomes t u i r a → P t.nodes t.root a (slice_set t.table.records i r) → P u.nodes u.root u.announced u.table.records
@@ -55,7 +56,7 @@ balanced_by t u i r a marks items owe item answer b e h =
 opening : (nodes root : ℕ) (t : Tree) → Passes (open_checks nodes root) → Opened nodes root t → Fresh tree_meaning nodes root t
 opening nodes root t pass h =
     let rs = replicate 64 blank in
-    let blanks = blank_at 64 in
+    let blanks : (k : ℕ) → node_at rs k ≡ blank = λ k. replicated 64 k blank in
     let inside : root < nodes = pass.0.1 in
     let lt : root < length rs = omega (arith, pass.0.0) in
     let move : (P : ℕ → ℕ → Bool → List Node → Type 0) → P nodes root false (slice_set rs root first) → P t.nodes t.root t.announced t.table.records = λ P x. rw (h.size, h.top, h.silent, h.records) x in
@@ -100,7 +101,9 @@ receiving t u i m item pass h = by_bool r.engaged P in_tree outside h.signal h.s
     lt = within t i inside
 
     P : Bool → Type 0
-    P v = item ≡ signal_of (i == t.root) r.parent (cond v (Signal m) Nothing) → Becomes t u i (cond v (woken r) (joining r m)) (announced_by (i == t.root) t.announced (cond v (Signal m) Nothing)) → Receiving tree_meaning t u i m item
+    P v =
+        let o = if v then Some (Signal m) else None in
+        item ≡ signal_of (i == t.root) r.parent o → Becomes t u i (if v then woken r else joining r m) (announced_by (i == t.root) t.announced o) → Receiving tree_meaning t u i m item
 
     in_tree : r.engaged ≡ true → P true
     in_tree eng e b = record {

@@ -1,10 +1,10 @@
 -- What happens to one node's record, by its state and the event together.
-use Rattle.std.specs.Prelude.{ℕ, ◌+◌, ◌-◌, Bool, true, false, cond, not, ◌&&◌, List, Some, None, ◌==◌, slice_index_or}
+use Rattle.std.specs.Prelude.{ℕ, ◌+◌, ◌-◌, Bool, true, false, if◌then◌else◌, not, ◌&&◌, List, Some, None, Option, ◌==◌, slice_index_or}
 use Rattle.tree.specs.declared.node.Node.{Node}
 use Rattle.tree.specs.declared.node.Event.{Event}
 use Rattle.tree.specs.declared.node.Event.TheVariants.{Received, Idled, Control}
 use Rattle.tree.specs.declared.node.Outcome.{Outcome}
-use Rattle.tree.specs.declared.node.Outcome.TheVariants.{Nothing, Signal, Left}
+use Rattle.tree.specs.declared.node.Outcome.TheVariants.{Signal, Left}
 
 -- a node that has not been engaged yet
 abbrev pub blank : Node
@@ -47,20 +47,20 @@ abbrev pub done : Node → Bool
 done r = r.engaged && (not r.active && r.deficit == 0)
 
 abbrev pub settled : Node → Node
-settled r = cond (done r) (left r) r
+settled r = if done r then left r else r
 
-abbrev pub leaving : Node → Outcome
-leaving r = cond (done r) Left Nothing
+abbrev pub leaving : Node → Option Outcome
+leaving r = if done r then Some Left else None
 
 -- the record after an event: a message wakes an engaged node and engages any other; a node that became idle, and one
 -- that got a signal, settle
 abbrev pub after : Node → Event → Node
-after r (Received m) = cond r.engaged (woken r) (joining r m)
+after r (Received m) = if r.engaged then woken r else joining r m
 after r Idled = settled (resting r)
 after r Control = settled (lowered r)
 
--- what comes of it: an engaged node pays a message back at once
-abbrev pub outcome : Node → Event → Outcome
-outcome r (Received m) = cond r.engaged (Signal m) Nothing
+-- what comes of it, if anything: an engaged node pays a message back at once
+abbrev pub outcome : Node → Event → Option Outcome
+outcome r (Received m) = if r.engaged then Some (Signal m) else None
 outcome r Idled = leaving (resting r)
 outcome r Control = leaving (lowered r)

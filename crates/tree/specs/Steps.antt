@@ -1,9 +1,9 @@
 -- The rules of the tree's calls: the tree before, and the tree after.
-use Rattle.std.specs.Prelude.{◌≡◌, ℕ, ◌<◌, Bool, true, false, cond, replicate, Some, None, Option, ◌==◌, slice_set}
+use Rattle.std.specs.Prelude.{◌≡◌, ℕ, ◌<◌, Bool, true, false, if◌then◌else◌, replicate, Some, None, Option, ◌==◌, slice_set}
 use Rattle.tree.specs.declared.node.Node.{Node}
 use Rattle.tree.specs.declared.node.Event.{Event}
 use Rattle.tree.specs.declared.node.Outcome.{Outcome}
-use Rattle.tree.specs.declared.node.Outcome.TheVariants.{Nothing, Signal, Left}
+use Rattle.tree.specs.declared.node.Outcome.TheVariants.{Signal, Left}
 use Rattle.tree.specs.declared.engagement.Tree.{Tree}
 use Rattle.tree.specs.Rules.{blank, first, node_at, raised, after, outcome}
 
@@ -35,16 +35,16 @@ pub record Sent (t : Tree) (i mark : ℕ) (u : Tree) : Type 0 where
   pub state : Becomes t u i (raised (at t i)) t.announced
 
 -- the signal that comes of an outcome at a node with that parent: the root, when it leaves, sends none
-abbrev pub signal_of : Bool → Option ℕ → Outcome → Option ℕ
-signal_of is_root parent Nothing = None
-signal_of is_root parent (Signal m) = Some m
-signal_of is_root parent Left = cond is_root None parent
+abbrev pub signal_of : Bool → Option ℕ → Option Outcome → Option ℕ
+signal_of is_root parent None = None
+signal_of is_root parent (Some (Signal m)) = Some m
+signal_of is_root parent (Some Left) = if is_root then None else parent
 
 -- announced, once the root has left
-abbrev pub announced_by : Bool → Bool → Outcome → Bool
-announced_by is_root was Nothing = was
-announced_by is_root was (Signal m) = was
-announced_by is_root was Left = cond is_root true was
+abbrev pub announced_by : Bool → Bool → Option Outcome → Bool
+announced_by is_root was None = was
+announced_by is_root was (Some (Signal m)) = was
+announced_by is_root was (Some Left) = if is_root then true else was
 
 -- An event happens at node i: its record changes as the rules say; when the root leaves the tree, it announces, and when
 -- any other node does, it signals its parent.

@@ -1,7 +1,6 @@
 //! The calls of the tree as a detector.
-ghost use Rattle.std.specs.Prelude.{◌≡◌, ◌<◌, if◌then◌else◌, None, nat_lt, slice_set};
-ghost use Rattle.tree.specs.Rules.{raised, node_at, after, outcome};
-ghost use Rattle.tree.specs.Steps.{Happens, at};
+ghost use Rattle.std.specs.Prelude.{◌≡◌, ◌<◌, ◌↔◌, if◌then◌else◌, Some, None, nat_lt, IsTrue};
+ghost use Rattle.tree.specs.Steps.{Happens, HasDeficit, at};
 ghost use Rattle.tree.specs.Balance.{tree_meaning};
 ghost use Rattle.tree.specs.Rightness;
 
@@ -9,39 +8,41 @@ use crate::engagement::{Table, Tree};
 use crate::node::{Event, Node, Outcome};
 use detector::detector::Detector;
 use detector::faults::DetectorFault;
-use detector::size::check_size;
+use detector::size::{check_node, check_size};
 
 /// The deficit of a node that can send no more.
 const SPENT: u16 = 65535;
 
-impl Table {
-    // Something happens at the node i.
-    fn tell(&mut self, i: usize, event: Event) -> Outcome
-        requires { i < 64 }
-        ensures state { self.new.records ≡ slice_set self.old.records i (after (node_at self.old.records i) event) }
-        ensures answer { result ≡ outcome (node_at self.old.records i) event }
-    {
-        self.records[i].happen(event)
-    }
-}
-
 impl Tree {
+    // The node's record, if it is there.
+    fn node(&self, node: u16) -> Option<Node>
+        ensures { result ≡ (if nat_lt node self.now.nodes then Some (at self.now node) else None) }
+    {
+        self.table.records[..usize::from(self.nodes)]
+            .get(usize::from(node))
+            .copied()
+    }
+
+    // Whether the node is there and has messages that are not paid back.
+    fn has_deficit(&self, node: u16) -> bool
+        ensures { IsTrue result ↔ HasDeficit self.now node }
+    {
+        self.node(node).is_some_and(|record| record.deficit > 0)
+    }
+
     // Something happens at a node; the answer is a signal to be sent, or nothing.
     fn tell(&mut self, node: u16, event: Event) -> Option<u16>
         requires { node < self.old.nodes }
         ensures { Happens self.old node event result self.new }
     {
-        match self.table.tell(node as usize, event) {
-            Outcome::Nothing => None,
+        let record = &mut self.table.records[usize::from(node)];
+        match record.happen(event)? {
             Outcome::Signal(to) => Some(to),
-            Outcome::Left => {
-                if node == self.root {
-                    self.announced = true;
-                    None
-                } else {
-                    self.table.records[node as usize].parent
-                }
+            Outcome::Left if node == self.root => {
+                self.announced = true;
+                None
             }
+            Outcome::Left => record.parent,
         }
     }
 
@@ -50,11 +51,7 @@ impl Tree {
     pub fn engaged_by(&self, node: u16) -> Option<u16>
         ensures { result ≡ (if nat_lt node self.now.nodes then (at self.now node).parent else None) }
     {
-        if node < self.nodes {
-            self.table.records[node as usize].parent
-        } else {
-            None
-        }
+        self.node(node).and_then(|record| record.parent)
     }
 }
 
@@ -66,7 +63,7 @@ impl Detector for Tree {
     fn open(nodes: u16, root: u16) -> Result<Tree, DetectorFault> {
         check_size(nodes, root)?;
         let mut records = [Node::BLANK; 64];
-        records[root as usize] = Node::FIRST;
+        records[usize::from(root)] = Node::FIRST;
         Ok(Tree {
             nodes,
             root,
@@ -76,54 +73,47 @@ impl Detector for Tree {
     }
 
     fn sent(&mut self, node: u16) -> Result<u16, DetectorFault> {
-        if node >= self.nodes {
-            return Err(DetectorFault::NoNode);
-        }
-        let i = node as usize;
-        let sender = self.table.records[i];
+        let sender = self.node(node).ok_or(DetectorFault::NoNode)?;
         if !sender.active {
             return Err(DetectorFault::Passive);
         }
         if sender.deficit == SPENT {
             return Err(DetectorFault::Spent);
         }
-        self.table.records[i].deficit = sender.deficit + 1;
+        self.table.records[usize::from(node)].deficit = sender.deficit + 1;
         Ok(node)
     }
 
     fn received(&mut self, node: u16, mark: u16) -> Result<Option<u16>, DetectorFault> {
-        if node >= self.nodes {
-            return Err(DetectorFault::NoNode);
-        }
-        if mark >= self.nodes || self.table.records[mark as usize].deficit == 0 {
+        check_node(self.nodes, node)?;
+        if !self.has_deficit(mark) {
             return Err(DetectorFault::BadMark);
         }
         Ok(self.tell(node, Event::Received(mark)))
     }
 
     fn idled(&mut self, node: u16) -> Result<Option<u16>, DetectorFault> {
-        if node >= self.nodes {
-            return Err(DetectorFault::NoNode);
-        }
-        if !self.table.records[node as usize].active {
+        let record = self.node(node).ok_or(DetectorFault::NoNode)?;
+        if !record.active {
             return Err(DetectorFault::Passive);
         }
         Ok(self.tell(node, Event::Idled))
     }
 
     fn control(&mut self, item: u16) -> Result<Option<u16>, DetectorFault> {
-        if item >= self.nodes || self.table.records[item as usize].deficit == 0 {
+        if !self.has_deficit(item) {
             return Err(DetectorFault::BadItem);
         }
         Ok(self.tell(item, Event::Control))
     }
 
     fn is_active(&self, node: u16) -> bool {
-        node < self.nodes && self.table.records[node as usize].active
+        self.node(node).is_some_and(|record| record.active)
     }
 
     fn is_spent(&self, node: u16) -> bool {
-        node < self.nodes && self.table.records[node as usize].deficit == SPENT
+        self.node(node)
+            .is_some_and(|record| record.deficit == SPENT)
     }
 
     fn has_announced(&self) -> bool {

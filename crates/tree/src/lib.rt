@@ -4,6 +4,4 @@
 pub mod calls;
 pub mod engagement;
 pub mod node;
-#[cfg(test)]
-mod tests;
 pub mod worked;

@@ -1,9 +1,9 @@
 //! One node of the engagement tree: its record, and what happens to it.
 ghost use Rattle.std.specs.Prelude.{◌≡◌};
-ghost use Rattle.tree.specs.Rules.{after, outcome, settled, leaving};
+ghost use Rattle.tree.specs.Rules.{after, outcome, settled, done};
 
 /// One node's record.
-#[derive(Clone, Copy)]
+#[derive(Clone, Copy, PartialEq, Eq, Hash, Debug)]
 pub struct Node {
     pub active: bool,
     /// Whether the node is in the tree.
@@ -15,7 +15,7 @@ pub struct Node {
 }
 
 /// What happens at a node.
-#[derive(Clone, Copy)]
+#[derive(Clone, Copy, PartialEq, Eq, Hash, Debug)]
 pub enum Event {
     /// A message with this mark arrives.
     Received(u16),
@@ -25,10 +25,9 @@ pub enum Event {
     Control,
 }
 
-/// What comes of it.
-#[derive(Clone, Copy)]
+/// What may come of it.
+#[derive(Clone, Copy, PartialEq, Eq, Hash, Debug)]
 pub enum Outcome {
-    Nothing,
     /// A signal goes to this node.
     Signal(u16),
     /// The node has left the tree.
@@ -52,43 +51,42 @@ impl Node {
         deficit: 0,
     };
 
-    /// What happens depends on the node's state and the event together.
-    pub fn happen(&mut self, event: Event) -> Outcome
+    /// What happens depends on the node's state and the event together; the answer is what comes of it, if anything.
+    pub fn happen(&mut self, event: Event) -> Option<Outcome>
         ensures state { self.new ≡ after self.old event }
         ensures answer { result ≡ outcome self.old event }
     {
         match (self.engaged, event) {
             (true, Event::Received(mark)) => {
                 self.active = true;
-                Outcome::Signal(mark)
+                Some(Outcome::Signal(mark))
             }
             (false, Event::Received(mark)) => {
                 self.active = true;
                 self.engaged = true;
                 self.parent = Some(mark);
-                Outcome::Nothing
+                None
             }
             (_, Event::Idled) => {
                 self.active = false;
-                self.settle()
+                self.settle().then_some(Outcome::Left)
             }
             (_, Event::Control) => {
                 self.deficit = self.deficit.saturating_sub(1);
-                self.settle()
+                self.settle().then_some(Outcome::Left)
             }
         }
     }
 
-    // An engaged, passive node that is owed nothing leaves the tree.
-    fn settle(&mut self) -> Outcome
+    // An engaged, passive node that is owed nothing leaves the tree; the answer is whether it did.
+    fn settle(&mut self) -> bool
         ensures state { self.new ≡ settled self.old }
-        ensures answer { result ≡ leaving self.old }
+        ensures answer { result ≡ done self.old }
     {
-        if self.engaged && !self.active && self.deficit == 0 {
+        let leaves = self.engaged && !self.active && self.deficit == 0;
+        if leaves {
             self.engaged = false;
-            Outcome::Left
-        } else {
-            Outcome::Nothing
         }
+        leaves
     }
 }

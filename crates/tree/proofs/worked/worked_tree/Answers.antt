@@ -1,6 +1,5 @@
-use Rattle.std.proofs.Common.{refl}
 use Rattle.tree.proofs.Cases.{worked}
 use Rattle.tree.proofs.worked.worked_tree.Goals as goal
 
-pub returns : goal.returns
-returns c = record { count = refl; hold = worked }
+pub returns-clause-hold : goal.returns-clause-hold
+returns-clause-hold c = worked

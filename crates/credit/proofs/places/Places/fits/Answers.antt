@@ -1,32 +1,33 @@
-use Rattle.std.proofs.Common.{refl, inl, inr, arith}
-use Rattle.std.proofs.lemmas.Bool.{false≢true, cases_Bool, not-true, not_from_false}
-use Rattle.std.proofs.lemmas.Bool.Decides.{when_true, when_false}
+use Rattle.std.proofs.Common.{◌+◌, ◌-◌, inl, inr, arith}
+use Rattle.std.proofs.lemmas.Bool.{both_ways, cases_Bool, not-true, not_from_false, true_from_ne_false, false_from_ne_true}
 use Rattle.credit.specs.ValuesLemmas.{whole_taken, credit_some}
-use Rattle.credit.proofs.Values.{whole_room, whole_closed, whole_over}
+use Rattle.credit.proofs.Values.{AllTaken, whole_room, whole_closed, whole_over}
+use Rattle.credit.proofs.Parts.{found, not_found}
 use Rattle.credit.proofs.places.Places.fits.Goals as goal
 
-pub returns-then-self-offset0 : goal.returns-then-self-offset0
-returns-then-self-offset0 c =
-    let ps = c.args.self.now.taken in
-    (λ z. absurd (false≢true z), λ fits. absurd (omega (arith, whole_taken ps c.requires.size c.if-self-offset0.true, credit_some c.args.e, fits)))
+pub returns-then-contains : goal.returns-then-contains
+returns-then-contains c =
+    let places = c.args.self.now in
+    let free = found places.taken 1 (c.from-e.result + 1 - 1) (omega (arith, places.width)) _ _ c.contains.ensures.cases c.if-contains.true in
+    (λ _. whole_room places.taken places.width free.0 c.args.e c.if-not-self.true free.1 (omega arith) c.requires free.3, λ _. c.if-contains.true)
 
-pub returns-then-has_free : goal.returns-then-has_free
-returns-then-has_free c =
-    let k = c.if-has_free.ensures in
-    (λ _. whole_room c.args.self.now.taken c.requires.size k.0 c.args.e c.if-self-offset0.false k.1 k.2 c.requires.small k.3, λ _. refl)
+pub returns-else-contains : goal.returns-else-contains
+returns-else-contains c =
+    let places = c.args.self.now in
+    let i = c.from-e.result in
+    let none = not_found places.taken 1 (i + 1 - 1) (omega (arith, places.width)) _ _ c.contains.ensures.cases c.if-contains.false in
+    let run : AllTaken places.taken c.args.e = λ k low high. true_from_ne_false _ (none k low (omega arith)) in
+    let r = c.contains-else-contains.result in
+    let behind = c.contains-else-contains.ensures.cases in
+    elim (cases_Bool r) [
+      | inl on ↦ (let more = found places.taken (i + 1) (1001 - (i + 1)) (omega (arith, places.width)) _ _ behind on in
+          let over = whole_over places.taken places.width c.args.e more.0 c.if-not-self.true c.requires run (omega arith) (omega arith) more.3 in
+          (λ closed. absurd (both_ways r (not-true r closed) on), λ room. absurd (omega (arith, room, over))))
+      | inr off ↦ (let empty = not_found places.taken (i + 1) (1001 - (i + 1)) (omega (arith, places.width)) _ _ behind off in
+          (λ _. omega (arith, whole_closed places.taken places.width c.args.e c.if-not-self.true c.requires run (λ k low high. false_from_ne_true _ (empty k (omega arith) (omega arith)))), λ _. not_from_false r off))
+    ]
 
-pub returns : goal.returns
-returns c =
-    let ps = c.args.self.now.taken in
-    let all = c.if-has_free.ensures in (
-      λ yes. omega (
-        arith,
-        whole_closed ps c.requires.size c.args.e c.if-self-offset0.false c.requires.small all
-            (when_false _ _ (not-true c.has_beyond.result yes) c.has_beyond.ensures),
-      ),
-      λ fits. elim (cases_Bool c.has_beyond.result) [
-        | inl on ↦ (let k = when_true _ _ on c.has_beyond.ensures in
-            absurd (omega (arith, fits, whole_over ps c.requires.size c.args.e k.0 c.if-self-offset0.false c.requires.small all k.1 k.2 k.3)))
-        | inr off ↦ not_from_false c.has_beyond.result off
-      ],
-    )
+pub returns-else-not-self : goal.returns-else-not-self
+returns-else-not-self c =
+    let places = c.args.self.now in
+    (λ free. absurd (both_ways _ (not-true _ free) c.if-not-self.false), λ room. absurd (omega (arith, whole_taken places.taken places.width c.if-not-self.false, credit_some c.args.e, room)))

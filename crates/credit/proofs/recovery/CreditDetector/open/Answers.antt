@@ -1,6 +1,6 @@
 use Rattle.std.proofs.Common.{false, get_or, set, Some, refl, ap, ◌∙◌}
 use Rattle.credit.specs.Holdings.{holding}
-use Rattle.credit.specs.ValuesLemmas.{replicated}
+use Rattle.detector.specs.Tables.{replicated}
 use Rattle.credit.proofs.recovery.CreditDetector.open.Goals as goal
 
 pub returns : goal.returns

@@ -1,32 +1,9 @@
 //! Exchanges played by hand from the rules of credit recovery.
-use crate::credit::Credit;
+use crate::played::{Row, open_fault, play};
+use credit::credit::Credit;
 use detector::detector::Detector;
 use detector::told::Call::{Control, Idled, Received, Sent};
-use detector::told::{Call, make};
-use std::process::Abort;
 use std::test::Fail;
-
-// A call and what it answers: a mark or an item, nothing, or the number of the fault.
-type Row = (Call, Result<Option<u16>, u8>);
-
-// Makes the calls, and checks each answer.
-fn play(rt: &impl Abort, d: &mut Credit, rows: &[Row]) {
-    for (call, expected) in rows {
-        let answer = match make(d, *call) {
-            Ok(item) => Ok(item),
-            Err(fault) => Err(fault.number()),
-        };
-        assert_eq!(rt; answer, *expected);
-    }
-}
-
-// The number of the fault that an opening is refused with, or 0.
-fn open_fault(nodes: u16, root: u16) -> u8 {
-    match Credit::open(nodes, root) {
-        Ok(_) => 0,
-        Err(fault) => fault.number(),
-    }
-}
 
 // The root sends to both others, and one of them to the other. Four items come back, a quarter each.
 const THREE_NODES: [Row; 12] = [
@@ -73,10 +50,17 @@ const FAULTS: [Row; 10] = [
 #[test]
 fn faults(rt: HostRuntime) -> Result<(), Fail> {
     assert_eq!(rt;
-        (open_fault(0, 0), open_fault(65, 0), open_fault(3, 3)),
+        (
+            open_fault::<Credit>(0, 0),
+            open_fault::<Credit>(65, 0),
+            open_fault::<Credit>(3, 3)
+        ),
         (20, 20, 20)
     );
-    assert_eq!(rt; (open_fault(64, 63), open_fault(1, 0)), (0, 0));
+    assert_eq!(rt;
+        (open_fault::<Credit>(64, 63), open_fault::<Credit>(1, 0)),
+        (0, 0)
+    );
     let Ok(mut d) = Credit::open(2, 1) else {
         return Err(Fail::new("refused"));
     };
@@ -151,8 +135,8 @@ fn carries(rt: HostRuntime) -> Result<(), Fail> {
     };
     for (item, answer, recovered) in CARRIES {
         play(&rt, &mut d, &[(Control(item), answer)]);
-        for (place, taken) in recovered.iter().enumerate() {
-            assert_eq!(rt; d.is_recovered(place as u16), *taken);
+        for (place, taken) in (0..6).zip(recovered) {
+            assert_eq!(rt; d.is_recovered(place), taken);
         }
     }
     assert!(rt; !d.is_recovered(1000) && !d.is_recovered(1001));

@@ -1,32 +1,9 @@
 //! Exchanges played by hand from the rules of the tree.
-use crate::engagement::Tree;
+use crate::played::{Row, open_fault, play};
 use detector::detector::Detector;
 use detector::told::Call::{Control, Idled, Received, Sent};
-use detector::told::{Call, make};
-use std::process::Abort;
 use std::test::Fail;
-
-// A call and what it answers: a mark or an item, nothing, or the number of the fault.
-type Row = (Call, Result<Option<u16>, u8>);
-
-// Makes the calls, and checks each answer.
-fn play(rt: &impl Abort, d: &mut Tree, rows: &[Row]) {
-    for (call, expected) in rows {
-        let answer = match make(d, *call) {
-            Ok(item) => Ok(item),
-            Err(fault) => Err(fault.number()),
-        };
-        assert_eq!(rt; answer, *expected);
-    }
-}
-
-// The number of the fault that an opening is refused with, or 0.
-fn open_fault(nodes: u16, root: u16) -> u8 {
-    match Tree::open(nodes, root) {
-        Ok(_) => 0,
-        Err(fault) => fault.number(),
-    }
-}
+use tree::engagement::Tree;
 
 // Three nodes: 0 sends to 1 and to 2, 1 sends to 2, which 0 has engaged already and which pays 1 back at once.
 const EXCHANGE: [Row; 11] = [
@@ -97,10 +74,17 @@ const FAULTS: [Row; 9] = [
 #[test]
 fn faults(rt: HostRuntime) -> Result<(), Fail> {
     assert_eq!(rt;
-        (open_fault(0, 0), open_fault(65, 0), open_fault(64, 64)),
+        (
+            open_fault::<Tree>(0, 0),
+            open_fault::<Tree>(65, 0),
+            open_fault::<Tree>(64, 64)
+        ),
         (20, 20, 20)
     );
-    assert_eq!(rt; (open_fault(64, 63), open_fault(1, 0)), (0, 0));
+    assert_eq!(rt;
+        (open_fault::<Tree>(64, 63), open_fault::<Tree>(1, 0)),
+        (0, 0)
+    );
     let Ok(mut t) = Tree::open(2, 0) else {
         return Err(Fail::new("opened"));
     };

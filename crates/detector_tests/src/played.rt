@@ -1,0 +1,21 @@
+//! What the tests of all detectors share: lists of calls with the answers that they have to get.
+use detector::detector::Detector;
+use detector::faults::DetectorFault;
+use detector::told::{Call, make};
+use std::process::Abort;
+
+/// A call and what it answers: a mark or an item, nothing, or the number of the fault.
+pub type Row = (Call, Result<Option<u16>, u8>);
+
+/// Makes the calls, and checks each answer.
+pub fn play<D: Detector>(rt: &impl Abort, d: &mut D, rows: &[Row]) {
+    for (call, expected) in rows {
+        let answer = make(d, *call).map_err(DetectorFault::number);
+        assert_eq!(rt; answer, *expected);
+    }
+}
+
+/// The number of the fault that an opening is refused with, or 0.
+pub fn open_fault<D: Detector + Drop>(nodes: u16, root: u16) -> u8 {
+    D::open(nodes, root).map_or_else(DetectorFault::number, |_| 0)
+}
