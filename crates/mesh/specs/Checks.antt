@@ -1,5 +1,5 @@
 -- The checks of a mesh's parts, in their order, and the numbers of the faults.
-use Rattle.std.specs.Prelude.{ℕ, ◌<◌, ◌≤◌, List, [], ◌∷◌, ◌++◌, length}
+use Rattle.std.specs.Prelude.{ℕ, ◌<◌, ◌≤◌, List, [], ◌∷◌, ◌++◌, length, codes, decimal}
 use Rattle.fault.specs.Checks.{Check, check}
 use Rattle.mesh.specs.declared.link.Link.{Link}
 use Rattle.mesh.specs.declared.link.LinkFault.{LinkFault}
@@ -14,10 +14,22 @@ link_fault_number OutOfRange = 4
 link_fault_number SameEnds = 5
 link_fault_number PairRepeated = 6
 
+-- how a fault is told in words
+abbrev pub link_fault_text : LinkFault → List ℕ
+link_fault_text TooMany = codes "the mesh has 512 links already"
+link_fault_text OutOfRange = codes "an end is no node, or the width is 0"
+link_fault_text SameEnds = codes "both ends are the same node"
+link_fault_text PairRepeated = codes "a link with these ends is there already"
+
 abbrev pub mesh_fault_number : MeshFault → ℕ
 mesh_fault_number Nodes = 4
 mesh_fault_number Root = 4
 mesh_fault_number (BadLink k e) = link_fault_number e
+
+abbrev pub mesh_fault_text : MeshFault → List ℕ
+mesh_fault_text Nodes = codes "the number of nodes is not from 1 to 64"
+mesh_fault_text Root = codes "the root is no node"
+mesh_fault_text (BadLink k e) = codes "link " ++ decimal k ++ codes ": " ++ link_fault_text e
 
 -- the checks of the link l, which is to follow the links ls
 abbrev pub link_checks : ℕ → List Link → Link → List (Check LinkFault)

@@ -1,10 +1,23 @@
 //! A number in a field.
-ghost use Rattle.std.specs.Prelude.{◌≡◌, ◌<◌, ◌↔◌, length, IsTrue, MatchResult, slice_index};
+ghost use Rattle.std.specs.Prelude.{◌≡◌, ◌<◌, ◌↔◌, length, IsTrue, MatchResult, Some, codes, slice_index};
 ghost use Rattle.text.specs.Decimal.{Writes, Number};
+
+use std::error::Error;
+use std::fmt;
 
 /// A field does not hold what its column takes.
 #[derive(Clone, Copy, Debug, PartialEq, Eq, Hash)]
 pub struct FieldFault;
+
+impl fmt::Display for FieldFault {
+    ghost output = { λ _. Some (codes "the column does not take the field") };
+
+    fn fmt<W: fmt::Write>(&self, f: &mut fmt::Formatter<W>) -> fmt::Result {
+        f.write_str("the column does not take the field")
+    }
+}
+
+impl Error for FieldFault {}
 
 // Whether a zero stands before other bytes.
 fn padded(text: &[u8]) -> bool

@@ -1,13 +1,15 @@
 //! Why a session file is refused.
-ghost use Rattle.std.specs.Prelude.{◌≡◌};
+ghost use Rattle.std.specs.Prelude.{◌≡◌, Some};
 ghost use Rattle.fault.specs.declared.Layer.TheVariants.{Reader};
 ghost use Rattle.vocab.specs.declared.faults.LineFault.TheVariants.{BadLink};
 ghost use Rattle.vocab.specs.declared.faults.ReadError.TheVariants.{Memory, Fault};
-ghost use Rattle.vocab.specs.Faults.{line_fault_number, line_fault_field, fault_number, fault_line, fault_field};
+ghost use Rattle.vocab.specs.Faults.{line_fault_number, line_fault_field, fault_number, fault_line, fault_field, line_fault_text, read_fault_text, read_error_text};
 
 use fault::Layer;
 use mesh::link::LinkFault;
 use std::alloc::AllocError;
+use std::error::Error;
+use std::fmt;
 
 /// Why a line is refused.
 #[derive(Clone, Copy, Debug, PartialEq, Eq, Hash)]
@@ -128,3 +130,47 @@ impl From<AllocError> for ReadError {
         ReadError::Memory
     }
 }
+
+impl fmt::Display for LineFault {
+    ghost output = { λ f. Some (line_fault_text f) };
+
+    fn fmt<W: fmt::Write>(&self, f: &mut fmt::Formatter<W>) -> fmt::Result {
+        match self {
+            LineFault::Layout => f.write_str("not as many fields as the table has columns"),
+            LineFault::WrongNames => f.write_str("not the names of the table, each once"),
+            LineFault::BadField(field) => {
+                write!(f, "field {field} does not hold what its column takes")
+            }
+            LineFault::BadLink(fault) => write!(f, "{fault}"),
+        }
+    }
+}
+
+impl Error for LineFault {}
+
+impl fmt::Display for ReadFault {
+    ghost output = { λ f. Some (read_fault_text f) };
+
+    fn fmt<W: fmt::Write>(&self, f: &mut fmt::Formatter<W>) -> fmt::Result {
+        match self {
+            ReadFault::TooLong => f.write_str("more than 65,536 bytes"),
+            ReadFault::Line(line, fault) => write!(f, "line {line}: {fault}"),
+            ReadFault::Missing(line) => write!(f, "line {line} is missing"),
+        }
+    }
+}
+
+impl Error for ReadFault {}
+
+impl fmt::Display for ReadError {
+    ghost output = { λ e. Some (read_error_text e) };
+
+    fn fmt<W: fmt::Write>(&self, f: &mut fmt::Formatter<W>) -> fmt::Result {
+        match self {
+            ReadError::Fault(fault) => write!(f, "{fault}"),
+            ReadError::Memory => f.write_str("out of memory"),
+        }
+    }
+}
+
+impl Error for ReadError {}
