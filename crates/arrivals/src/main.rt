@@ -10,8 +10,9 @@ use channel::item::{ChannelFault, Item};
 use pile::picked::Picked;
 use pile::stack::Stack;
 use ring::queue::Queue;
-use std::fs;
-use text::number::number;
+use std::str::FromStr;
+use std::{fmt, fs};
+use text::number::{FieldFault, number};
 
 #[derive(Clone, Copy)]
 enum Call {
@@ -19,37 +20,53 @@ enum Call {
     Take(u16),
 }
 
-// The call that a line writes, or none.
-fn call_of(line: &[u8]) -> Option<Call> {
-    match line {
-        [b'p', b'u', b't', b' ', digits @ ..] => match number(digits, 0, 65535) {
-            Ok(parts) => Some(Call::Put(parts)),
-            Err(_) => None,
-        },
-        [b't', b'a', b'k', b'e', b' ', digits @ ..] => match number(digits, 0, 65535) {
-            Ok(pick) => Some(Call::Take(pick)),
-            Err(_) => None,
-        },
-        _ => None,
+impl FromStr for Call {
+    type Err = FieldFault;
+
+    fn from_str(line: &str) -> Result<Call, FieldFault> {
+        if let Some(parts) = line.strip_prefix("put ") {
+            Ok(Call::Put(number(parts.as_bytes(), 0, u16::MAX)?))
+        } else if let Some(pick) = line.strip_prefix("take ") {
+            Ok(Call::Take(number(pick.as_bytes(), 0, u16::MAX)?))
+        } else {
+            Err(FieldFault)
+        }
     }
 }
 
-// Makes a call on any channel: what a put leaves waiting or a take answers, with its sign.
-fn accepted<C: Channel<u16>>(c: &mut C, call: Call) -> Result<(&'static str, usize), ChannelFault> {
+// What a channel answers to a call.
+#[derive(Clone, Copy)]
+enum Answer {
+    /// So many wait after a put.
+    Waiting(usize),
+    /// A take took this item.
+    Taken(u16),
+    Refused(ChannelFault),
+}
+
+impl fmt::Display for Answer {
+    fn fmt<W: fmt::Write>(&self, f: &mut fmt::Formatter<W>) -> fmt::Result {
+        match self {
+            Answer::Waiting(count) => write!(f, "+{count}"),
+            Answer::Taken(parts) => write!(f, "{parts}"),
+            Answer::Refused(fault) => write!(f, "!{}", fault.number()),
+        }
+    }
+}
+
+// Makes a call on any channel.
+fn accepted<C: Channel<u16>>(c: &mut C, call: Call) -> Result<Answer, ChannelFault> {
     match call {
         Call::Put(parts) => {
             c.put(parts)?;
-            Ok(("+", c.waiting()))
+            Ok(Answer::Waiting(c.waiting()))
         }
-        Call::Take(pick) => Ok(("", c.take(pick)?.parts as usize)),
+        Call::Take(pick) => Ok(Answer::Taken(c.take(pick)?.parts)),
     }
 }
 
-fn answer<C: Channel<u16>>(c: &mut C, call: Call) -> (&'static str, usize) {
-    match accepted(c, call) {
-        Ok(answer) => answer,
-        Err(fault) => ("!", fault.number() as usize),
-    }
+fn outcome<C: Channel<u16>>(c: &mut C, call: Call) -> Answer {
+    accepted(c, call).unwrap_or_else(Answer::Refused)
 }
 
 // Plays all calls on a channel of each sort, of one capacity.
@@ -63,13 +80,13 @@ fn play(rt: &HostRuntime, calls: &str, capacity: usize) -> anyhow::Result<()> {
     let mut picked = Picked::new(&mut any);
     println!(rt; "capacity {capacity}")?;
     for line in calls.lines() {
-        let Some(call) = call_of(line.as_bytes()) else {
-            return Err(anyhow!("a line of arrivals.txt is neither put nor take with a number"));
-        };
-        let (a, first) = answer(&mut queue, call);
-        let (b, second) = answer(&mut stack, call);
-        let (c, third) = answer(&mut picked, call);
-        println!(rt; "{a}{first} {b}{second} {c}{third}")?;
+        let call: Call = line.parse().map_err(|_| anyhow!(
+            "a line of arrivals.txt is neither put nor take with a number"
+        ))?;
+        let first = outcome(&mut queue, call);
+        let second = outcome(&mut stack, call);
+        let third = outcome(&mut picked, call);
+        println!(rt; "{first} {second} {third}")?;
     }
     Ok(())
 }

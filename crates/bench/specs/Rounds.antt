@@ -1,18 +1,12 @@
 -- What comes out of a channel in steady use.
-use Rattle.std.specs.Prelude.{◌≡◌, ℕ, zero, suc, ◌+◌, ◌*◌, ◌%◌, ◌^◌, ◌⊎◌, List, [], ◌∷◌, ◌++◌, Ok, Err, Result}
+use Rattle.std.specs.Prelude.{◌≡◌, ℕ, zero, suc, ◌+◌, ◌*◌, ◌%◌, ◌^◌, ◌⊎◌, List, [], ◌∷◌, ◌++◌}
 use Rattle.channel.specs.declared.item.Item.{Item}
-use Rattle.channel.specs.declared.item.ChannelFault.{ChannelFault}
 use Rattle.channel.specs.Holds.{Holding, TakenAt}
 
 -- the items of n numbers, counting up from `first` and round the end of 32 bits
 abbrev pub numbered : ℕ → ℕ → List (Item ℕ)
 numbered first zero = []
 numbered first (suc n) = numbered first n ++ record { parts = (first + n) % 2 ^ 32 } ∷ []
-
--- those items were put behind the ones that waited
-abbrev pub Filled : {C : Type 0} → Holding C ℕ → C → ℕ → ℕ → C → Result (Unit {0}) ChannelFault → Type 0
-Filled h old first n new (Ok _) = h.waits new ≡ h.waits old ++ numbered first n
-Filled h old first n new (Err f) = Unit {0}
 
 -- the pick of the number k
 abbrev pub pick_of : ℕ → ℕ
@@ -27,10 +21,6 @@ Took {C = C} h old first (suc n) new sum =
     × TakenAt (h.waits mid) (h.waits new) (h.place mid (pick_of (first + n))) item
     × (sum ≡ (before + item.parts) % 2 ^ 64)
 
-abbrev pub Drained : {C : Type 0} → Holding C ℕ → C → ℕ → ℕ → C → Result ℕ ChannelFault → Type 0
-Drained h old first n new (Ok sum) = Took h old first n new sum
-Drained h old first n new (Err f) = Unit {0}
-
 -- n rounds lead from `old` to `new`: round k puts `burst` numbers from k on, and then takes as many items.
 abbrev pub Ran : {C : Type 0} → Holding C ℕ → C → ℕ → ℕ → C → ℕ → Type 0
 Ran h old burst zero new sum = (new ≡ old) × (sum ≡ 0)
@@ -40,10 +30,6 @@ Ran {C = C} h old burst (suc n) new sum =
     × (h.waits full ≡ h.waits mid ++ numbered n burst)
     × Took h full n burst new taken
     × (sum ≡ (before + taken) % 2 ^ 64)
-
-abbrev pub Summed : {C : Type 0} → Holding C ℕ → C → ℕ → ℕ → C → Result ℕ ChannelFault → Type 0
-Summed h old burst n new (Ok sum) = Ran h old burst n new sum
-Summed h old burst n new (Err f) = Unit {0}
 
 -- The sum of what n rounds took, after `waiting` items were put; or 0.
 abbrev pub Sum : {C : Type 0} → Holding C ℕ → C → ℕ → ℕ → ℕ → ℕ → Type 0

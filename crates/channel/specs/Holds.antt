@@ -1,5 +1,5 @@
 -- What a channel means: the waiting items, oldest first, a capacity, and which of the waiting items a take takes.
-use Rattle.std.specs.Prelude.{◌≡◌, ℕ, suc, ◌<◌, ◌≤◌, List, [], ◌∷◌, ◌++◌, length, take, drop, Ok, Err, Result, slice_index_or}
+use Rattle.std.specs.Prelude.{◌≡◌, ℕ, suc, ◌<◌, ◌≤◌, List, [], ◌∷◌, ◌++◌, length, take, drop, Ok, Err, Result, slice_index_or, codes}
 use Rattle.channel.specs.declared.item.Item.{Item}
 use Rattle.channel.specs.declared.item.ChannelFault.{ChannelFault}
 use Rattle.channel.specs.declared.item.ChannelFault.TheVariants.{Full, Empty}
@@ -8,6 +8,11 @@ use Rattle.channel.specs.declared.item.ChannelFault.TheVariants.{Full, Empty}
 abbrev pub channel_fault_number : ChannelFault → ℕ
 channel_fault_number Full = 31
 channel_fault_number Empty = 32
+
+-- what a refusal is printed as
+abbrev pub channel_fault_text : ChannelFault → List ℕ
+channel_fault_text Full = codes "no room is left"
+channel_fault_text Empty = codes "no item waits"
 
 -- `place c pick` is the place, counted from 0 among the waiting items, of the one that a take with this pick takes
 pub record Holding (C P : Type 0) : Type 0 where

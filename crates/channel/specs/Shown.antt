@@ -16,3 +16,8 @@ Passed h old parts pick new (Err f) = (h.capacity old ≤ length (h.waits old)) 
 abbrev pub OfTwo : {P : Type 0} → ℕ → P → P → ℕ → Result P ChannelFault → Type 0
 OfTwo capacity a b i (Ok p) = (2 ≤ capacity) × (p ≡ slice_index_or (a ∷ b ∷ []) i p) × (i < 2)
 OfTwo capacity a b i (Err f) = (capacity < 2) × (f ≡ Full)
+
+-- the same for any meaning of a channel: the place is the one that it gives the pick where the two wait
+abbrev pub OfTwoBy : {C P : Type 0} → Holding C P → ℕ → P → P → ℕ → Result P ChannelFault → Type 0
+OfTwoBy {C = C} h capacity a b pick (Ok p) = (both : C) × (h.waits both ≡ record { parts = a } ∷ record { parts = b } ∷ []) × OfTwo capacity a b (h.place both pick) (Ok p)
+OfTwoBy h capacity a b pick (Err f) = (capacity < 2) × (f ≡ Full)

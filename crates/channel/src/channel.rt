@@ -1,5 +1,5 @@
 //! The trait of channels.
-ghost use Rattle.std.specs.Prelude.{◌≡◌, length};
+ghost use Rattle.std.specs.Prelude.{◌≡◌, [], length};
 ghost use Rattle.channel.specs.Holds.{Holding, Sound, Added, Taken};
 
 use crate::item::{ChannelFault, Item};
@@ -29,4 +29,12 @@ pub trait Channel<P: Copy> {
     /// How many items can wait.
     fn capacity(&self) -> usize
         ensures { result ≡ holds.capacity self.now };
+}
+
+/// A channel that lies over slots that its user lends.
+pub trait OverSlots<'a, P: Copy>: Channel<P> + Drop {
+    /// An empty channel over these slots.
+    fn over(slots: &'a mut [Item<P>]) -> Self
+        ensures none { Self.holds.waits result ≡ [] }
+        ensures room { Self.holds.capacity result ≡ length slots.old };
 }

@@ -1,15 +1,18 @@
 //! What a channel carries, and why it refuses.
-ghost use Rattle.std.specs.Prelude.{◌≡◌};
-ghost use Rattle.channel.specs.Holds.{channel_fault_number};
+ghost use Rattle.std.specs.Prelude.{◌≡◌, Some};
+ghost use Rattle.channel.specs.Holds.{channel_fault_number, channel_fault_text};
+
+use std::error::Error;
+use std::fmt;
 
 /// An item: a basic message or a control item, by its parts.
-#[derive(Clone, Copy)]
+#[derive(Clone, Copy, Debug, PartialEq, Eq, Hash)]
 pub struct Item<P> {
     pub parts: P,
 }
 
 /// The parts of a basic message: the link that it travels, its label and the sender's mark.
-#[derive(Clone, Copy)]
+#[derive(Clone, Copy, Debug, PartialEq, Eq, Hash)]
 pub struct Message<K> {
     pub link: u16,
     pub label: K,
@@ -17,7 +20,7 @@ pub struct Message<K> {
 }
 
 /// Why a channel refuses.
-#[derive(Clone, Copy)]
+#[derive(Clone, Copy, Debug, PartialEq, Eq, Hash)]
 pub enum ChannelFault {
     /// As many items wait as there is room for.
     Full,
@@ -36,3 +39,16 @@ impl ChannelFault {
         }
     }
 }
+
+impl fmt::Display for ChannelFault {
+    ghost output = { λ fault. Some (channel_fault_text fault) };
+
+    fn fmt<W: fmt::Write>(&self, f: &mut fmt::Formatter<W>) -> fmt::Result {
+        f.write_str(match self {
+            ChannelFault::Full => "no room is left",
+            ChannelFault::Empty => "no item waits",
+        })
+    }
+}
+
+impl Error for ChannelFault {}

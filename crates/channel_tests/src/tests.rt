@@ -1,25 +1,24 @@
 //! Short sequences whose answers follow from the rules by hand.
 use channel::channel::Channel;
-use channel::item::{Item, Message};
+use channel::item::{ChannelFault, Item, Message};
 use pile::picked::Picked;
 use pile::stack::Stack;
+use pile::uses::{picked_of_two, stack_of_two};
 use ring::queue::Queue;
+use ring::uses::queue_of_two;
 use std::process::Abort;
+use std::test::Fail;
 
 // The number of the refusal of a put, or 0.
 fn refused<P: Copy, C: Channel<P>>(c: &mut C, parts: P) -> u8 {
-    match c.put(parts) {
-        Ok(()) => 0,
-        Err(fault) => fault.number(),
-    }
+    c.put(parts).err().map_or(0, ChannelFault::number)
 }
 
 // What a take answers, or the number of its refusal.
 fn taken<P: Copy, C: Channel<P>>(c: &mut C, pick: u16) -> Result<P, u8> {
-    match c.take(pick) {
-        Ok(item) => Ok(item.parts),
-        Err(fault) => Err(fault.number()),
-    }
+    c.take(pick)
+        .map(|item| item.parts)
+        .map_err(ChannelFault::number)
 }
 
 // The refusals of a channel with room for one: of a take, of a second put, and of a take once more.
@@ -103,26 +102,33 @@ fn messages(rt: HostRuntime) {
     };
     let mut slots = [Item { parts: none }; 2];
     let mut stack = Stack::new(&mut slots);
+    let message = Message {
+        link: 3,
+        label: 70000,
+        mark: 1000,
+    };
+    assert_eq!(rt; refused(&mut stack, message), 0);
+    assert_eq!(rt; taken(&mut stack, 0), Ok(message));
+}
+
+#[test]
+fn of_two(rt: HostRuntime) {
+    let mut slots = [Item { parts: 0u16 }; 2];
+    assert_eq!(rt; queue_of_two(&mut slots, 7, 8, 1), Ok(7));
+    assert_eq!(rt; stack_of_two(&mut slots, 7, 8, 0), Ok(8));
+    assert_eq!(rt; picked_of_two(&mut slots, 7, 8, 2), Ok(7));
+    assert_eq!(rt; picked_of_two(&mut slots, 7, 8, 65535), Ok(8));
     assert_eq!(rt;
-        refused(
-            &mut stack,
-            Message {
-                link: 3,
-                label: 70000,
-                mark: 1000,
-            },
-        ),
-        0
+        queue_of_two(&mut slots[..1], 7, 8, 1),
+        Err(ChannelFault::Full)
     );
-    match taken(&mut stack, 0) {
-        Ok(message) => {
-            assert_eq!(rt;
-                (message.link, message.label, message.mark),
-                (3, 70000, 1000)
-            );
-        }
-        Err(number) => {
-            assert_eq!(rt; number, 0);
-        }
-    }
+}
+
+#[test]
+fn refusals_as_text(rt: HostRuntime) -> Result<(), Fail> {
+    let full = ChannelFault::Full.to_string(rt.alloc())?;
+    let empty = ChannelFault::Empty.to_string(rt.alloc())?;
+    assert_eq!(rt; full.as_str(), "no room is left");
+    assert_eq!(rt; empty.as_str(), "no item waits");
+    Ok(())
 }

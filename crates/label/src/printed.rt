@@ -1,6 +1,6 @@
 //! Label kinds that can be printed.
 ghost use Rattle.std.specs.Prelude.{ℕ, List};
-ghost use Rattle.text.specs.Output.{Writes};
+ghost use Rattle.text.specs.Output.{Appends};
 ghost use Rattle.label.specs.Texts.{value_text};
 
 use crate::label::Label;
@@ -11,14 +11,14 @@ pub trait Printed: Label {
     // the text of a label
     ghost text: { Self → List ℕ };
 
-    /// Writes the text.
+    /// Appends the text.
     fn put_text(&self, output: &mut Output<'_>)
-        ensures { Writes output.old (text self.now) output.new };
+        ensures { Appends output.old (text self.now) output.new };
 }
 
-// Writes a value, or a minus sign for none.
+// Appends a value, or a minus sign for none.
 pub(crate) fn put_value(value: Option<u64>, output: &mut Output<'_>)
-    ensures { Writes output.old (value_text value) output.new }
+    ensures { Appends output.old (value_text value) output.new }
 {
     match value {
         Some(n) => output.put_number(n),

@@ -1,23 +1,10 @@
 -- Lists of items kept in the first slots.
-use Rattle.std.proofs.Common.{◌≡◌, ℕ, suc, ◌+◌, ◌-◌, ◌<◌, ◌≤◌, List, [], ◌++◌, length, get_or, take, drop, sym, ap, ◌∙◌, subst, add-one, arith}
+use Rattle.std.proofs.Common.{◌≡◌, ℕ, suc, ◌+◌, ◌-◌, ◌<◌, ◌≤◌, List, ◌++◌, length, get_or, take, drop, sym, ap, ◌∙◌, add-one, arith}
 use borrow.Rule.Slice.PartMut.{put_mid}
-use Rattle.std.proofs.lemmas.List.{length-take-le, length-drop, length-append, get_or-take, get_or_default, take-take, take_at, drop_all, append-nil, append_assoc, drop-take, drop-drop}
+use Rattle.std.proofs.lemmas.List.{length-take-le, length-drop, length-append, get_or-take, get_or_default, take-take, take_at, append_assoc, drop-take, drop-drop}
 use Rattle.std.proofs.lemmas.Slice.{take-put_mid}
 use Rattle.channel.specs.declared.item.Item.{Item}
 use Rattle.channel.specs.Holds.{TakenAt}
-
--- The last of the first n is taken by counting one less: what stands before it is left, and nothing stands behind it.
-pub last_taken : {P : Type 0} (xs : List (Item P)) (n : ℕ) (d : Item P) → 0 < n → n ≤ length xs
-    → TakenAt (take n xs) (take (n - 1) xs) (length (take n xs) - 1) (get_or xs (n - 1) d)
-last_taken xs n d pos fits =
-    let len : length (take n xs) ≡ n = length-take-le n xs fits in
-    let gone : drop (suc (n - 1)) (take n xs) ≡ [] = drop_all (suc (n - 1)) (take n xs) (omega arith) in
-    let e : take (n - 1) (take n xs) ≡ take (n - 1) xs = take-take (n - 1) n xs (omega arith) in
-    subst (λ i. TakenAt (take n xs) (take (n - 1) xs) i (get_or xs (n - 1) d)) (omega arith) (record {
-      within = omega arith;
-      at = get_or-take n xs (n - 1) _ (omega arith) ∙ get_or_default xs (n - 1) _ d (omega arith);
-      rest = sym (ap (λ q. take (n - 1) (take n xs) ++ q) gone ∙ append-nil _ ∙ e);
-    })
 
 -- The item at place p of the first n is taken by turning the part from p to n by one: those behind it move one place
 -- down in their order, it stands last of the n, and the count goes down by one.

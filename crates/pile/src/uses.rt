@@ -4,8 +4,8 @@ ghost use Rattle.channel.specs.Shown.{OfTwo};
 
 use crate::picked::Picked;
 use crate::stack::Stack;
-use channel::channel::Channel;
 use channel::item::{ChannelFault, Item};
+use channel::uses::of_two;
 
 /// Of two items put into a stack over these slots, the one that comes out: the second.
 pub fn stack_of_two<P: Copy>(
@@ -16,10 +16,7 @@ pub fn stack_of_two<P: Copy>(
 ) -> Result<P, ChannelFault>
     ensures { OfTwo (length slots.old) a b 1 result }
 {
-    let mut stack = Stack::new(slots);
-    stack.put(a)?;
-    stack.put(b)?;
-    Ok(stack.take(pick)?.parts)
+    of_two::<P, Stack<P>>(slots, a, b, pick)
 }
 
 /// Of two items put into a picked channel over these slots, the one that comes out: an even pick's is the first.
@@ -31,8 +28,5 @@ pub fn picked_of_two<P: Copy>(
 ) -> Result<P, ChannelFault>
     ensures { OfTwo (length slots.old) a b (pick % 2) result }
 {
-    let mut picked = Picked::new(slots);
-    picked.put(a)?;
-    picked.put(b)?;
-    Ok(picked.take(pick)?.parts)
+    of_two::<P, Picked<P>>(slots, a, b, pick)
 }

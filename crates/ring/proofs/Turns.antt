@@ -1,5 +1,6 @@
 -- Lists of items kept round the end of the slots.
 use Rattle.std.proofs.Common.{◌≡◌, ℕ, zero, suc, ◌+◌, ◌-◌, ◌<◌, ◌≤◌, List, [], ◌∷◌, ◌++◌, length, get_or, take, drop, set, sym, refl, ap, ◌∙◌, subst, arith}
+use Rattle.std.proofs.Math.Seq.{take-set-lt}
 use Rattle.std.proofs.lemmas.List.{length-take-le, length-take, length-drop, length-append, take-append-le, take_all, drop_all, append-nil, append_assoc, drop_more, take_more, drop-set-add, drop-set-lt, take-set-le, set-append_left, set-append_right}
 use Rattle.channel.specs.declared.item.Item.{Item}
 use Rattle.channel.specs.Holds.{TakenAt}
@@ -12,31 +13,24 @@ length_turned f xs = omega (arith, length-append (drop f xs) (take f xs), length
 pub turned_past : {X : Type 0} (f : ℕ) (xs : List X) → length xs ≤ f → turned 0 xs ≡ turned f xs
 turned_past f xs h = append-nil xs ∙ sym (ap (λ q. q ++ take f xs) (drop_all f xs h) ∙ take_all f xs h)
 
-take_set_front : {X : Type 0} (xs : List X) (f j : ℕ) (y : X) → take f (set xs j y) ≡ set (take f xs) j y
-take_set_front [] zero j y = refl
-take_set_front [] (suc f) j y = refl
-take_set_front (x ∷ xs) zero j y = refl
-take_set_front (x ∷ xs) (suc f) zero y = refl
-take_set_front (x ∷ xs) (suc f) (suc j) y = ap (λ q. x ∷ q) (take_set_front xs f j y)
-
 -- a write n slots behind slot f, where the end is not reached, is one at place n of the turned list
-pub turned_behind : {X : Type 0} (xs : List X) (f n : ℕ) (y : X) → n < length xs - f → turned f (set xs (f + n) y) ≡ set (turned f xs) n y
-turned_behind xs f n y h =
+pub turned_behind : {X : Type 0} (xs : List X) (f n i : ℕ) (y : X) → n < length xs - f → i ≡ f + n → turned f (set xs i y) ≡ set (turned f xs) n y
+turned_behind xs f n i y h e =
+    rw e
     let a : drop f (set xs (f + n) y) ≡ set (drop f xs) n y = drop-set-add f xs n y in
     let b : take f (set xs (f + n) y) ≡ take f xs = take-set-le f xs (f + n) y (omega arith) in
     ap (λ q. q ++ take f (set xs (f + n) y)) a ∙ ap (λ q. set (drop f xs) n y ++ q) b
     ∙ sym (set-append_left (drop f xs) (take f xs) n y (omega (arith, length-drop f xs)))
 
 -- and so is one round the end
-pub turned_round : {X : Type 0} (xs : List X) (f n : ℕ) (y : X) → n < length xs → length xs - f ≤ n → turned f (set xs (n - (length xs - f)) y) ≡ set (turned f xs) n y
-turned_round xs f n y l h =
-    let j : ℕ = n - (length xs - f) in
-    let a : drop f (set xs j y) ≡ drop f xs = drop-set-lt f xs j y (omega arith) in
-    ap (λ q. q ++ take f (set xs j y)) a ∙ ap (λ q. drop f xs ++ q) (take_set_front xs f j y)
+pub turned_round : {X : Type 0} (xs : List X) (f n i : ℕ) (y : X) → n < length xs → length xs - f ≤ n → i ≡ n - (length xs - f) → turned f (set xs i y) ≡ set (turned f xs) n y
+turned_round xs f n i y l h e =
+    let a : drop f (set xs i y) ≡ drop f xs = drop-set-lt f xs i y (omega arith) in
+    ap (λ q. q ++ take f (set xs i y)) a ∙ ap (λ q. drop f xs ++ q) (take-set-lt f xs i y (omega arith) ∙ ap (λ k. set (take f xs) k y) e)
     ∙ sym (set-append_right (drop f xs) (take f xs) (length xs - f) n y (length-drop f xs) h)
 
 -- one slot on, the first one goes to the end
-turned_head : {X : Type 0} (xs : List X) (p : ℕ) (d : X) → p < length xs → turned p xs ≡ get_or xs p d ∷ (drop (p + 1) xs ++ take p xs)
+pub turned_head : {X : Type 0} (xs : List X) (p : ℕ) (d : X) → p < length xs → turned p xs ≡ get_or xs p d ∷ (drop (p + 1) xs ++ take p xs)
 turned_head xs p d h = ap (λ q. q ++ take p xs) (drop_more xs p d h)
 
 turned_next : {X : Type 0} (xs : List X) (p : ℕ) (d : X) → p < length xs → turned (p + 1) xs ≡ (drop (p + 1) xs ++ take p xs) ++ (get_or xs p d ∷ [])

@@ -2,7 +2,7 @@
 use Rattle.std.proofs.Common.{◌≡◌, ℕ, suc, ◌+◌, ◌^◌, ◌<◌, ◌≤◌, List, [], ◌∷◌, ◌++◌, length, take, drop, set, sym, refl, ap, ◌∙◌, append_assoc, add-zero, add_assoc, zero-add, arith}
 use Rattle.std.proofs.lemmas.List.{length-append, length-set, take_more_set, drop-set-lt, take-append-drop}
 use Rattle.text.specs.declared.output.Output.{Output}
-use Rattle.text.specs.Output.{stamped, Puts, Writes}
+use Rattle.text.specs.Output.{stamped, Puts, Appends}
 
 pub stamped_on : (old : List ℕ) (at : ℕ) (s t : List ℕ) → stamped (stamped old at s) (at + length s) t ≡ stamped old at (s ++ t)
 stamped_on old at [] t = ap (λ k. stamped old k t) (add-zero at)
@@ -45,9 +45,9 @@ at_front old s new end h small w =
     (w.place (omega arith) ∙ z, w.after (omega arith) ∙ stamped_is old 0 s (omega arith) ∙ ap (λ k. s ++ drop k old) z)
 
 -- nothing written to an output
-pub none_written : (o : Output) → Writes o [] o
+pub none_written : (o : Output) → Appends o [] o
 none_written o = record { puts = none o.bytes.now o.end; same = refl }
 
 -- one text written to an output after another
-pub both_written : {o m n : Output} {s t : List ℕ} → Writes o s m → Writes m t n → Writes o (s ++ t) n
+pub both_written : {o m n : Output} {s t : List ℕ} → Appends o s m → Appends m t n → Appends o (s ++ t) n
 both_written v w = record { puts = then v.puts w.puts; same = w.same ∙ v.same }

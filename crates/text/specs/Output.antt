@@ -12,7 +12,8 @@ pub record Puts (old : List ℕ) (at : ℕ) (s new : List ℕ) (end : ℕ) : Typ
   pub place : at + length s < 2 ^ 64 → end ≡ at + length s
   pub after : at + length s < 2 ^ 64 → new ≡ stamped old at s
 
--- the text s was written into the output
-pub record Writes (before : Output) (s : List ℕ) (after : Output) : Type 0 where
+-- The text s was written at the place of the output, which is now after it. The output refers to what it referred to, so a
+-- caller learns what its own bytes are in the end.
+pub record Appends (before : Output) (s : List ℕ) (after : Output) : Type 0 where
   pub puts : Puts before.bytes.now before.end s after.bytes.now after.end
   pub same : after.bytes.ghost_name ≡ before.bytes.ghost_name

@@ -3,7 +3,7 @@
 //! Each text is written from a place on, as far as the output reaches. So a first writing into an empty output measures
 //! a text, and a second one writes it.
 ghost use Rattle.std.specs.Prelude.{◌≡◌, [], ◌∷◌, decimal};
-ghost use Rattle.text.specs.Output.{Puts, Writes};
+ghost use Rattle.text.specs.Output.{Puts, Appends};
 
 /// A caller's output, and the place from which the next text is written on. Past the end nothing is written, but the
 /// place goes on.
@@ -23,9 +23,9 @@ impl<'a> Output<'a> {
         Output { bytes, end: 0 }
     }
 
-    /// Writes one byte.
+    /// Appends one byte.
     pub fn put_byte(&mut self, byte: u8)
-        ensures { Writes self.old (byte ∷ []) self.new }
+        ensures { Appends self.old (byte ∷ []) self.new }
     {
         if self.end < self.bytes.len() {
             self.bytes[self.end] = byte;
@@ -33,18 +33,18 @@ impl<'a> Output<'a> {
         self.end = self.end.wrapping_add(1);
     }
 
-    /// Writes some bytes.
+    /// Appends some bytes.
     pub fn put_bytes(&mut self, bytes: &[u8])
-        ensures { Writes self.old bytes.now self.new }
+        ensures { Appends self.old bytes.now self.new }
     {
         for b in bytes {
             self.put_byte(*b);
         }
     }
 
-    /// Writes a number in decimal.
+    /// Appends a number in decimal.
     pub fn put_number(&mut self, n: u64)
-        ensures { Writes self.old (decimal n) self.new }
+        ensures { Appends self.old (decimal n) self.new }
     {
         if n >= 10 {
             self.put_number(n / 10);
