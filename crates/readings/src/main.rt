@@ -30,94 +30,78 @@ fn escaped(letter: u8) -> u8 {
 }
 
 // Appends a piece.
-fn append(bytes: &mut Vec<u8>, piece: &[u8]) -> Result<(), AllocError> {
-    let mut after = false;
-    for b in piece {
-        if after {
-            bytes.push(escaped(*b))?;
-            after = false;
-        } else if *b == b'\\' {
-            after = true;
-        } else {
-            bytes.push(*b)?;
+fn append(file: &mut Vec<u8>, piece: &str) -> Result<(), AllocError> {
+    let mut bytes = piece.bytes();
+    while let Some(byte) = bytes.next() {
+        if byte != b'\\' {
+            file.push(byte)?;
+        } else if let Some(letter) = bytes.next() {
+            file.push(escaped(letter))?;
         }
-    }
-    Ok(())
-}
-
-// The count at the front of a line, and the piece after its space.
-fn counted(line: &[u8]) -> (u32, &[u8]) {
-    let mut count: u32 = 0;
-    for (i, b) in line.iter().enumerate() {
-        if *b == b' ' {
-            return (count, &line[i + 1..]);
-        }
-        count = count
-            .wrapping_mul(10)
-            .wrapping_add(u32::from(*b))
-            .wrapping_sub(48);
-    }
-    (count, line)
-}
-
-// Appends a piece so many times.
-fn append_times(bytes: &mut Vec<u8>, line: &[u8]) -> Result<(), AllocError> {
-    let (count, piece) = counted(line);
-    for _ in 0..count {
-        append(bytes, piece)?;
     }
     Ok(())
 }
 
 // A sum of the bytes that depends on their order.
 fn sum_of(text: &[u8]) -> u32 {
-    let mut sum: u32 = 0;
-    for b in text {
-        sum = sum.wrapping_mul(31).wrapping_add(u32::from(*b));
-    }
-    sum
+    text.iter().fold(0, |sum: u32, byte| {
+        sum.wrapping_mul(31).wrapping_add(u32::from(*byte))
+    })
 }
 
 // Prints what `normalize` prints of a file.
-fn show(rt: &HostRuntime, heap: Global, bytes: &[u8]) -> anyhow::Result<()> {
-    let answer = Room::reserve(heap)?.read(bytes);
+fn show(out: &mut impl Write, heap: Global, file: &[u8]) -> anyhow::Result<()> {
+    let answer = Room::reserve(heap)?.read(file);
     let length = report_length(&answer);
     let mut text = vec![in heap; 0u8; length]?;
     // The text fits: its length was asked for.
     let _ = report(&answer, &mut text);
     if length > WHOLE {
         let sum = sum_of(&text);
-        println!(rt; "bytes {length} sum {sum}")?;
-        return Ok(());
+        writeln!(out, "bytes {length} sum {sum}")?;
+    } else {
+        out.write_all(&text)?;
     }
-    let mut out = rt.stdout();
-    out.write_all(&text)?;
     Ok(())
 }
 
-fn run(rt: &HostRuntime) -> anyhow::Result<()> {
-    let heap = rt.alloc();
-    let archive = fs::read_to_string(rt, "readings.txt")?;
-    let mut bytes = Vec::new(heap);
-    let mut first = true;
-    for line in archive.as_str().lines() {
-        match line.as_bytes() {
-            [b'c', b'a', b's', b'e', b' ', ..] => {
-                if !first {
-                    show(rt, heap, &bytes)?;
-                }
-                first = false;
-                bytes.clear();
-                println!(rt; "{line}")?;
-            }
-            [b't', b' ', piece @ ..] => append(&mut bytes, piece)?,
-            [b'r', b' ', rest @ ..] => append_times(&mut bytes, rest)?,
-            _ => return Err(anyhow!("a line of readings.txt is none of case, t and r")),
-        }
-    }
-    show(rt, heap, &bytes)
+// The count at the front of a text, and the piece after its space.
+fn counted(text: &str) -> (u32, &str) {
+    let (count, piece) = text.split_once(' ').unwrap_or((text, text));
+    let count = count.bytes().fold(0, |count: u32, digit| {
+        count
+            .wrapping_mul(10)
+            .wrapping_add(u32::from(digit))
+            .wrapping_sub(48)
+    });
+    (count, piece)
 }
 
 fn main(rt: HostRuntime) -> anyhow::Result<()> {
-    run(&rt)
+    let heap = rt.alloc();
+    let archive = fs::read_to_string(&rt, "readings.txt")?;
+    let mut out = rt.stdout();
+    let mut file = Vec::new(heap);
+    let mut is_first = true;
+    for line in archive.as_str().lines() {
+        match line.split_once(' ') {
+            Some(("case", _)) => {
+                if !is_first {
+                    show(&mut out, heap, &file)?;
+                }
+                is_first = false;
+                file.clear();
+                writeln!(out, "{line}")?;
+            }
+            Some(("t", piece)) => append(&mut file, piece)?,
+            Some(("r", text)) => {
+                let (count, piece) = counted(text);
+                for _ in 0..count {
+                    append(&mut file, piece)?;
+                }
+            }
+            _ => return Err(anyhow!("a line of readings.txt is none of case, t and r")),
+        }
+    }
+    show(&mut out, heap, &file)
 }

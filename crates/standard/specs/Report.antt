@@ -1,16 +1,18 @@
 -- What is written of a session or of a fault.
 use Rattle.std.specs.Prelude.{◌≡◌, ℕ, ◌<◌, ◌≤◌, List, [], ◌∷◌, ◌++◌, length, drop, Some, None, codes, decimal, Option}
-use Rattle.text.specs.Lines.{spaced}
 use Rattle.fault.specs.Layers.{layer_word}
 use Rattle.fault.specs.declared.Layer.TheVariants.{Reader}
 use Rattle.vocab.specs.declared.faults.ReadFault.{ReadFault}
 use Rattle.format.specs.Content.{standard}
 use Rattle.format.specs.Verdict.{Judgement, accepted, refused}
 use Rattle.vocab.specs.Faults.{fault_number, fault_line, fault_field}
+use Rattle.standard.specs.Texts.{line}
 
 -- a fault: a line of names, and its number, layer, line and field
 abbrev pub fault_text : ReadFault → List ℕ
-fault_text f = codes "fault layer line field\n" ++ (spaced (decimal (fault_number f) ∷ layer_word Reader ∷ decimal (fault_line f) ∷ decimal (fault_field f) ∷ []) ++ 10 ∷ [])
+fault_text f =
+    line (codes "fault" ∷ codes "layer" ∷ codes "line" ∷ codes "field" ∷ [])
+    ++ line (decimal (fault_number f) ∷ layer_word Reader ∷ decimal (fault_line f) ∷ decimal (fault_field f) ∷ [])
 
 -- a judgement: the session in the standard order, or the fault
 abbrev pub report_text : Judgement → List ℕ

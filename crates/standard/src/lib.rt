@@ -1,5 +1,6 @@
 //! Sessions written in the standard column order, and what the program `normalize` prints.
 #![tactic(auto)]
 
-mod parts;
+mod put;
 pub mod report;
+mod rows;

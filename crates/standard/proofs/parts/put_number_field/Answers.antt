@@ -1,5 +1,0 @@
-use Rattle.text.proofs.Stamps.{then}
-use Rattle.standard.proofs.parts.put_number_field.Goals as goal
-
-pub returns : goal.returns
-returns c = then c.put_number-end.ensures c.put_byte.ensures
