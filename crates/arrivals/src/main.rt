@@ -14,7 +14,7 @@ use std::str::FromStr;
 use std::{fmt, fs};
 use text::number::{FieldFault, number};
 
-#[derive(Clone, Copy)]
+#[derive(Clone, Copy, Debug, PartialEq, Eq, Hash)]
 enum Call {
     Put(u16),
     Take(u16),
@@ -35,7 +35,7 @@ impl FromStr for Call {
 }
 
 // What a channel answers to a call.
-#[derive(Clone, Copy)]
+#[derive(Clone, Copy, Debug, PartialEq, Eq, Hash)]
 enum Answer {
     /// So many wait after a put.
     Waiting(usize),

@@ -13,8 +13,7 @@ pub mod channels;
 pub extern "C" fn bench_read(heap: Global, bytes: &[u8]) -> usize
     ensures { Counts bytes.now result }
 {
-    match read(heap, bytes) {
-        Ok(session) => session.mesh.links.len().wrapping_add(session.steps.len()),
-        Err(_) => 0,
-    }
+    read(heap, bytes).map_or(0, |session| {
+        session.mesh.links.len().wrapping_add(session.steps.len())
+    })
 }

@@ -1,5 +1,5 @@
 -- Tables whose columns stand in an order of the writer's own.
-use Rattle.std.specs.Prelude.{◌≡◌, ℕ, ◌<◌, List, [], ◌∷◌, ◌++◌, map, length, get_or, ◌≢◌, slice_index, slice_index_or}
+use Rattle.std.specs.Prelude.{◌≡◌, ℕ, ◌<◌, List, [], ◌∷◌, ◌++◌, map, length, ◌≢◌, slice_index, slice_index_or}
 use Rattle.std.specs.Borrow.{Bor}
 use Rattle.std.specs.List.{flat_map, AllByRecursion}
 use Rattle.text.specs.Lines.{spaced, Fields}
@@ -12,7 +12,7 @@ pub record Order (n : ℕ) (o : List ℕ) : Type 0 where
 
 -- what stands in the columns, in this order
 abbrev pub arranged : List ℕ → List (List ℕ) → List (List ℕ)
-arranged o xs = map (λ k. get_or xs k []) o
+arranged o xs = map (λ k. slice_index_or xs k []) o
 
 -- a line of these columns in this order, with its line feed
 abbrev pub row : List ℕ → List (List ℕ) → List ℕ

@@ -21,7 +21,7 @@ pub trait Put {
 }
 
 /// A value of a column.
-#[derive(Clone, Copy)]
+#[derive(Clone, Copy, Debug, PartialEq, Eq, Hash)]
 pub enum Value {
     Number(u64),
     Word(&'static [u8]),
