@@ -67,7 +67,7 @@ impl Row for LinkRow {
     ghost fits = { link_fits };
 
     fn put(&mut self, column: usize, text: &[u8]) -> Result<(), FieldFault> {
-        let last = self.nodes.saturating_sub(1) as u16;
+        let last = u16::from(self.nodes.saturating_sub(1));
         match column {
             0 => self.link.from = number(text, 0, last)? as u8,
             1 => self.link.to = number(text, 0, last)? as u8,

@@ -53,7 +53,7 @@ impl Label for Cost {
     }
 
     fn extend(self, link: &Link) -> Cost {
-        Cost::from(self.metric.saturating_add(link.cost as u32))
+        Cost::from(self.metric.saturating_add(u32::from(link.cost)))
     }
 
     fn better(&self, other: &Cost) -> bool {
@@ -67,6 +67,6 @@ impl Printed for Cost {
     ghost text = { cost_text };
 
     fn put_text(&self, output: &mut Output<'_>) {
-        put_value(self.value().map(|cost| cost as u64), output);
+        put_value(self.value().map(u64::from), output);
     }
 }

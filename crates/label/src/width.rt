@@ -67,6 +67,6 @@ impl Printed for Width {
     ghost text = { width_text };
 
     fn put_text(&self, output: &mut Output<'_>) {
-        put_value(self.value().map(|width| width as u64), output);
+        put_value(self.value().map(u64::from), output);
     }
 }

@@ -68,7 +68,7 @@ fn in_range(nodes: u8, link: Link) -> bool
 fn pair_of(link: Link) -> usize
     ensures { result ≡ link.from * 64 + link.to }
 {
-    link.from as usize * SIDE + link.to as usize
+    usize::from(link.from) * SIDE + usize::from(link.to)
 }
 
 impl Mesh {

@@ -21,8 +21,8 @@ impl Put for Setting {
         put_line(
             output,
             &[
-                Value::Number(self.nodes as u64),
-                Value::Number(self.root as u64),
+                Value::Number(u64::from(self.nodes)),
+                Value::Number(u64::from(self.root)),
                 Value::Word(self.kind.word()),
                 Value::Word(self.detector.word()),
                 Value::Word(self.channel.word()),
@@ -38,10 +38,10 @@ impl Put for Link {
         put_line(
             output,
             &[
-                self.from as u64,
-                self.to as u64,
-                self.cost as u64,
-                self.width as u64,
+                u64::from(self.from),
+                u64::from(self.to),
+                u64::from(self.cost),
+                u64::from(self.width),
             ],
         );
     }
@@ -55,7 +55,7 @@ impl Put for Step {
             output,
             &[
                 Value::Word(self.action.word()),
-                Value::Number(self.pick as u64),
+                Value::Number(u64::from(self.pick)),
             ],
         );
     }
@@ -89,7 +89,7 @@ impl Put for ReadFault {
         put_line(
             output,
             &[
-                Value::Number(self.number() as u64),
+                Value::Number(u64::from(self.number())),
                 Value::Word(self.layer().word()),
                 Value::Number(self.line() as u64),
                 Value::Number(self.field() as u64),

@@ -31,14 +31,14 @@ fn padded(text: &[u8]) -> bool
 pub fn number(text: &[u8], low: u16, high: u16) -> Result<u16, FieldFault>
     ensures { MatchResult result (Writes low high text.now) (λ _. (Number low high text.now → ⊥)) }
 {
-    let most = high as u32;
+    let most = u32::from(high);
     let mut value: u32 = 0;
     for b in text {
         if !b.is_ascii_digit() {
             return Err(FieldFault);
         }
         if value <= most {
-            value = value * 10 + (*b - b'0') as u32;
+            value = value * 10 + u32::from(*b - b'0');
         }
     }
     if text.is_empty() {
@@ -47,7 +47,7 @@ pub fn number(text: &[u8], low: u16, high: u16) -> Result<u16, FieldFault>
     if padded(text) {
         return Err(FieldFault);
     }
-    if value < low as u32 {
+    if value < u32::from(low) {
         return Err(FieldFault);
     }
     if value > most {
