@@ -15,22 +15,25 @@ import re
 import sys
 
 POINTS = {
-    1: "own Option or Result, a flag with a value beside it, numbers for kinds or refusals",
+    1: "matches that Option and Result have a method for, flags beside a value, numbers for kinds or refusals",
     2: "twins: functions whose bodies are equal but for names, types, strings and numbers",
-    3: "loops, and indices counted by hand",
-    4: "equality, conversion and printing written by hand, plain types without Debug, PartialEq and Eq",
-    5: "clauses and pairs of parameters that stand in three or more functions",
-    6: "buffers with a length beside, parallel arrays, arrays and lists searched by index, byte strings for text",
+    3: "loops over an index, by enumerate, or with a place that is passed on",
+    4: "conversion, comparison and printing by hand; types without Debug, PartialEq and Eq; faults without Display",
+    5: "requirements and pairs of parameters that stand in three or more functions",
+    6: "fields that are buffers, lengths or arrays; vectors of numbers or flags; patterns of bytes that spell a word",
     7: "switches on which step to run, function pointers, dyn",
-    8: "answers in proofs/ (definitions that answer a goal), and files of invariants",
+    8: "answers and invariants in proofs/",
 }
 
 LINES = {
-    1: r"Result<[^{]*, u8>|-> u8 \{|&'static str, usize|match column|let mut (first|after) = (true|false)|^ *(pub )?enum |: bool,$|const NO_(COST|WIDTH)",
-    3: r"enumerate\(\)|\bwhile |\bloop \{|\bfor \w+ in [^{]*\.\.|\b\w+ [+-]= 1;",
-    4: r"as_slice\(\)|fn (of|value|word)\(|fn put_\w+\(|fn word_of|fn \w+_of\(text|Err\(fault\) => Err\(|Err\(_\) => (0|Err)|Err\(fault\) => (fault\.number|\(\"!\")",
-    6: r"\b(count|first|len|nodes): (usize|u16|u8),|Vec<(usize|bool|Link|Step)>,|: \[\w+; ?\w+\],|&'static \[",
-    7: r"\bmatch (column|call|event|self\.engaged|\(self)|\bfn\(|\bdyn |impl Fn",
+    1: r"Result<[^{]*, u8>|-> u8 \{|&'static str, usize|match column|let mut \w+ = (true|false);|const NO_\w+:|^\s+Nothing,"
+    r"|(Err|Ok|Some)\(\w+\) => (Err|Ok|Some|0|unreachable|fault|exponent|sum\b|\()|None => (Err|None|Some|false)|_ => (false|None),"
+    r"|if let (Err|Ok|Some)\(\w+\) =|let (Some|Ok)\([^=]*= .* else \{|\bNone$",
+    3: r"enumerate\(\)|\bwhile |\bloop \{|\bfor \w+ in [^{]*\.\.|end = put_",
+    4: r"as_slice\(\)|\bas (u8|u16|u32|u64|usize)\b|fn (of|value)\(|fn (put|display)_\w+\(|\*\w+ [<>]=? b'|b'0' <= \*|_MARK \|\|"
+    r"|Err\(fault\) => (fault\.number|\(\"!\")",
+    6: r"^ +(pub(\(crate\))? )?\w+: (usize|u16|u8|bool|Vec<\w+>|\[\w+; \w+\]|&'a mut \[.*),$|&mut Vec<|\[b'\w', ",
+    7: r"\bmatch (column|call|event|\(self)|\bfn\(|\bdyn |impl Fn",
 }
 
 
@@ -104,11 +107,18 @@ def repeated():
 
 
 def derives():
-    for path in sources():
-        lines = open(path).read().split("\n")
-        for i, l in enumerate(lines):
-            if re.match(r"#\[derive\(Clone, Copy\)\]$", l):
-                yield "%s:%d: %s" % (path, i + 1, lines[i + 1])
+    texts = {path: open(path).read() for path in sources()}
+    everything = "\n".join(texts.values())
+    for path, text in texts.items():
+        if path.endswith("tests.rt"):
+            continue
+        for m in re.finditer(r"((?:^#\[[^\n]*\]\n)*)^(?:pub )?(struct|enum) (\w+)", text, re.M):
+            attributes, kind, name = m.groups()
+            where = "%s:%d: %s %s" % (path, text.count("\n", 0, m.start(2)) + 1, kind, name)
+            if "Copy" in attributes and "PartialEq" not in attributes:
+                yield where + ": no Debug, PartialEq, Eq, Hash"
+            if re.search(r"(Fault|Error)$", name) and "fmt::Display for %s " % name not in everything:
+                yield where + ": no Display"
 
 
 def answers():

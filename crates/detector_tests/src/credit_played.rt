@@ -23,9 +23,7 @@ const THREE_NODES: [Row; 12] = [
 
 #[test]
 fn three_nodes(rt: HostRuntime) -> Result<(), Fail> {
-    let Ok(mut d) = Credit::open(3, 0) else {
-        return Err(Fail::new("refused"));
-    };
+    let mut d = Credit::open(3, 0)?;
     play(&rt, &mut d, &THREE_NODES);
     assert!(rt; !d.has_announced());
     play(&rt, &mut d, &[(Control(2), Ok(None))]);
@@ -61,9 +59,7 @@ fn faults(rt: HostRuntime) -> Result<(), Fail> {
         (open_fault::<Credit>(64, 63), open_fault::<Credit>(1, 0)),
         (0, 0)
     );
-    let Ok(mut d) = Credit::open(2, 1) else {
-        return Err(Fail::new("refused"));
-    };
+    let mut d = Credit::open(2, 1)?;
     play(&rt, &mut d, &FAULTS);
     assert_eq!(rt; (d.held(0), d.held(1), d.held(2)), (None, Some(0), None));
     Ok(())
@@ -72,9 +68,7 @@ fn faults(rt: HostRuntime) -> Result<(), Fail> {
 // A node halves its credit a thousand times, and no more.
 #[test]
 fn spent(rt: HostRuntime) -> Result<(), Fail> {
-    let Ok(mut d) = Credit::open(1, 0) else {
-        return Err(Fail::new("refused"));
-    };
+    let mut d = Credit::open(1, 0)?;
     for exponent in 1..1001 {
         assert!(rt; !d.is_spent(0));
         play(&rt, &mut d, &[(Sent(0), Ok(Some(exponent)))]);
@@ -99,9 +93,7 @@ const OUT_OF_BALANCE: [Row; 9] = [
 
 #[test]
 fn out_of_balance(rt: HostRuntime) -> Result<(), Fail> {
-    let Ok(mut d) = Credit::open(2, 0) else {
-        return Err(Fail::new("refused"));
-    };
+    let mut d = Credit::open(2, 0)?;
     play(&rt, &mut d, &OUT_OF_BALANCE);
     assert_eq!(rt;
         (
@@ -130,9 +122,7 @@ const CARRIES: [(u16, Result<Option<u16>, u8>, [bool; 6]); 9] = [
 
 #[test]
 fn carries(rt: HostRuntime) -> Result<(), Fail> {
-    let Ok(mut d) = Credit::open(1, 0) else {
-        return Err(Fail::new("refused"));
-    };
+    let mut d = Credit::open(1, 0)?;
     for (item, answer, recovered) in CARRIES {
         play(&rt, &mut d, &[(Control(item), answer)]);
         for (place, taken) in (0..6).zip(recovered) {

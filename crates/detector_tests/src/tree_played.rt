@@ -22,9 +22,7 @@ const EXCHANGE: [Row; 11] = [
 
 #[test]
 fn exchange(rt: HostRuntime) -> Result<(), Fail> {
-    let Ok(mut t) = Tree::open(3, 0) else {
-        return Err(Fail::new("opened"));
-    };
+    let mut t = Tree::open(3, 0)?;
     assert!(rt; t.is_active(0) && !t.is_active(1) && !t.is_active(3));
     play(&rt, &mut t, &EXCHANGE);
     assert!(rt; !t.has_announced());
@@ -47,9 +45,7 @@ const AGAIN: [Row; 7] = [
 
 #[test]
 fn engaged_again(rt: HostRuntime) -> Result<(), Fail> {
-    let Ok(mut t) = Tree::open(3, 2) else {
-        return Err(Fail::new("opened"));
-    };
+    let mut t = Tree::open(3, 2)?;
     play(&rt, &mut t, &AGAIN);
     assert_eq!(rt;
         (t.engaged_by(0), t.engaged_by(1), t.engaged_by(2)),
@@ -85,9 +81,7 @@ fn faults(rt: HostRuntime) -> Result<(), Fail> {
         (open_fault::<Tree>(64, 63), open_fault::<Tree>(1, 0)),
         (0, 0)
     );
-    let Ok(mut t) = Tree::open(2, 0) else {
-        return Err(Fail::new("opened"));
-    };
+    let mut t = Tree::open(2, 0)?;
     play(&rt, &mut t, &FAULTS);
     Ok(())
 }
@@ -95,9 +89,7 @@ fn faults(rt: HostRuntime) -> Result<(), Fail> {
 // 65,535 messages can be owed a signal, and no more.
 #[test]
 fn spent(rt: HostRuntime) -> Result<(), Fail> {
-    let Ok(mut t) = Tree::open(2, 1) else {
-        return Err(Fail::new("opened"));
-    };
+    let mut t = Tree::open(2, 1)?;
     for _ in 0..65535 {
         play(&rt, &mut t, &[(Sent(1), Ok(Some(1)))]);
     }
@@ -129,9 +121,7 @@ const MISUSE: [Row; 8] = [
 
 #[test]
 fn misuse(rt: HostRuntime) -> Result<(), Fail> {
-    let Ok(mut t) = Tree::open(2, 0) else {
-        return Err(Fail::new("opened"));
-    };
+    let mut t = Tree::open(2, 0)?;
     play(&rt, &mut t, &MISUSE);
     assert_eq!(rt; t.engaged_by(0), Some(1));
     assert!(rt; t.has_announced() && t.is_active(1));
