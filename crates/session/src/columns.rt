@@ -42,9 +42,7 @@ fn order_of<const N: usize>(words: &[&[u8]], line: &[u8]) -> Result<Columns<N>, 
     let mut rest = line;
     for i in 0..N {
         let (text, after) = first_field(rest);
-        let Some(k) = find(words, text) else {
-            return Err(LineFault::WrongNames);
-        };
+        let k = find(words, text).ok_or(LineFault::WrongNames)?;
         if order[..i].contains(&k) {
             return Err(LineFault::WrongNames);
         }
