@@ -1,4 +1,4 @@
-use Rattle.std.proofs.Common.{◌≡◌, None, Some, Option, Err, Result, ℕ, ◌+◌, ◌<◌, eqb, List, [], length, get_or, take, drop, sym, refl, ap, ◌∙◌, subst, arith}
+use Rattle.std.proofs.Common.{◌≡◌, None, Some, Option, ok_or, Err, Result, ℕ, ◌+◌, ◌<◌, eqb, List, [], length, get_or, take, drop, sym, refl, ap, ◌∙◌, subst, arith}
 use Rattle.std.proofs.lemmas.List.Elements.{contains_decides}
 use Rattle.std.proofs.lemmas.List.{length-map, length-replicate, length-set, take_more_set, take_all}
 use Rattle.std.proofs.lemmas.Bool.{both_ways}
