@@ -1,6 +1,6 @@
 //! Channels in use by code that knows only the traits.
 ghost use Rattle.std.specs.Prelude.{◌≡◌, length};
-ghost use Rattle.channel.specs.Shown.{Passed, OfTwo, OfTwoBy};
+ghost use Rattle.channel.specs.Shown.{Passed, OfTwoBy};
 
 use crate::channel::{Channel, OverSlots};
 use crate::item::{ChannelFault, Item};

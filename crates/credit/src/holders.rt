@@ -3,13 +3,13 @@ ghost use Rattle.std.specs.Prelude.{◌≡◌, ◌<◌, replicate, None, slice_s
 ghost use Rattle.credit.specs.Holdings.{holding};
 
 /// What a node holds: an exponent if it is active, nothing if it is passive.
-#[derive(Clone, Copy, PartialEq, Eq, Hash, Debug)]
+#[derive(Clone, Copy, Debug, PartialEq, Eq, Hash)]
 pub struct Holder {
     pub held: Option<u16>,
 }
 
 /// A record for each of the 64 nodes that there may be.
-#[derive(PartialEq, Eq, Hash, Debug, Drop)]
+#[derive(Debug, PartialEq, Eq, Hash, Drop)]
 pub struct Holders {
     pub records: [Holder; 64],
 }

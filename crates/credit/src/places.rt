@@ -3,7 +3,7 @@ ghost use Rattle.std.specs.Prelude.{◌≡◌, ◌+◌, ◌≤◌, ◌↔◌, fa
 ghost use Rattle.credit.specs.Places.{value, whole, credit_of, IsLastFree, Added};
 
 /// A set of the places 0 to 1,000, of which place e is worth the credit of exponent e, and all together at most one.
-#[derive(PartialEq, Eq, Hash, Debug, Drop)]
+#[derive(Debug, PartialEq, Eq, Hash, Drop)]
 pub struct Places {
     pub taken: [bool; 1001],
     ghost width: { length taken ≡ 1001 },

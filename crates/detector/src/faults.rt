@@ -6,7 +6,7 @@ use std::error::Error;
 use std::fmt;
 
 /// Why a detector refuses a call.
-#[derive(Clone, Copy, PartialEq, Eq, Hash, Debug)]
+#[derive(Clone, Copy, Debug, PartialEq, Eq, Hash)]
 pub enum DetectorFault {
     /// Opened with a number of nodes outside 1 to 64, or with a root that is no node.
     Size,

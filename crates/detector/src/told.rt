@@ -5,7 +5,7 @@ use crate::detector::Detector;
 use crate::faults::DetectorFault;
 
 /// What a detector can be told.
-#[derive(Clone, Copy, PartialEq, Eq, Hash, Debug)]
+#[derive(Clone, Copy, Debug, PartialEq, Eq, Hash)]
 pub enum Call {
     /// The node sends a message.
     Sent(u16),

@@ -1,7 +1,7 @@
 -- A row filled from the fields of a line, one column after another.
 use Rattle.std.proofs.Common.{◌≡◌, ℕ, zero, suc, ◌+◌, ◌<◌, ◌≤◌, List, [], ◌∷◌, length, get_or, drop, set, sym, ap, ◌∙◌, subst, inl, inr, ⊎_elim, add-zero, arith}
 use Rattle.std.specs.List.{AllByRecursion}
-use Rattle.std.proofs.ByRecursion.{All-get_or, All-drop}
+use Rattle.std.proofs.lemmas.List.Elements.{All-from_recursion, recursion_from_All, All-drop}
 use Rattle.std.proofs.lemmas.List.{length-map, length-set, get_or-map, get_or-set_same, get_or-set_other, same_lists, get_or_default, drop_more}
 use Rattle.std.proofs.lemmas.Bool.{cases_lt}
 use Rattle.fault.specs.Checks.{Passes, Fails}
@@ -18,7 +18,7 @@ use Rattle.format.proofs.Orders.{each}
 pub next_field : (line : List ℕ) (fs : List (List ℕ)) (i : ℕ) (rest front after : List ℕ) → Fields line fs → i < length fs → rest ≡ spaced (drop i fs) → Parted rest front after → (front ≡ get_or fs i []) × (after ≡ spaced (drop (i + 1) fs))
 next_field line fs i rest front after w l e p =
     let s = drop_more fs i [] l in
-    first_of (get_or fs i []) (drop (i + 1) fs) front after (subst (AllByRecursion Field) s (All-drop Field i fs w.each)) (subst (λ t. Parted t front after) (e ∙ ap spaced s) p)
+    first_of (get_or fs i []) (drop (i + 1) fs) front after (subst (AllByRecursion Field) s (recursion_from_All Field (drop i fs) (All-drop Field i fs (All-from_recursion Field fs w.each)))) (subst (λ t. Parted t front after) (e ∙ ap spaced s) p)
 
 module _ (takes : ℕ → List ℕ → Type 0) (line : List ℕ) (fs : List (List ℕ)) (w : Fields line fs) where
   -- a field is taken by its column where some cut of the line says so, since there is one cut
@@ -61,7 +61,7 @@ module _ (takes : ℕ → List ℕ → Type 0) (n : ℕ) (o : List ℕ) (q : Ord
   pub one_more : i < length o → (t : List ℕ) → t ≡ get_or fs i [] → takes (get_or o i 0) t → (values' : List (List ℕ)) (fits' : ℕ → Type 0) → PutAt (get_or o i 0) t values values' fits fits' → Sofar takes n o fs (i + 1) values' fits'
   one_more l t is took values' fits' p =
       let k = get_or o i 0 in
-      let in' : k < length values = omega (arith, s.long, All-get_or (λ y. y < n) o i 0 l q.below) in
+      let in' : k < length values = omega (arith, s.long, All-from_recursion (λ y. y < n) o q.below i 0 l) in
       let last : (P : ℕ → Type 0) → P i → (j : ℕ) → j < i + 1 → i ≤ j → P j = λ P h j a b. let e : i ≡ j = omega arith in subst P e h in
       record {
         long = ap length p.is ∙ length-set values k t ∙ s.long;

@@ -2,7 +2,7 @@
 use Rattle.std.proofs.Common.{◌≡◌, ℕ, zero, suc, ◌+◌, ◌^◌, ◌<◌, ◌≤◌, true, false, ◌&&◌, leb, List, [], ◌∷◌, ◌++◌, length, get_or, decimal, sym, refl, ◌∙◌, subst, arith}
 use Rattle.std.specs.List.{AllByRecursion}
 use Rattle.std.proofs.lemmas.Fmt.{digits_decimal, decimal_nonempty}
-use Rattle.std.proofs.ByRecursion.{All-get_or}
+use Rattle.std.proofs.lemmas.List.Elements.{All-from_recursion}
 use Rattle.std.proofs.lemmas.List.{get_or-map}
 use Rattle.std.proofs.lemmas.Str.Parse.{digit_at}
 use Rattle.std.proofs.lemmas.Bool.{le-leb, and_from}
@@ -29,7 +29,7 @@ row_passes takes o xs line q some w holds e =
     fields_pass takes line (arranged o xs) c.0 o 0 (λ j l.
     let z : j ≡ 0 + j = omega arith in
     let at = get_or-map (λ k. get_or xs k []) o j 0 [] l in
-    subst (λ a. takes (get_or o j 0) (get_or (arranged o xs) a [])) z (subst (takes (get_or o j 0)) (sym at) (holds (get_or o j 0) (All-get_or (λ y. y < length xs) o j 0 l q.below))))
+    subst (λ a. takes (get_or o j 0) (get_or (arranged o xs) a [])) z (subst (takes (get_or o j 0)) (sym at) (holds (get_or o j 0) (All-from_recursion (λ y. y < length xs) o q.below j 0 l))))
 
 pub setting_holds : (h : Setting) → SettingInRange h → (k : ℕ) → k < 5 → setting_takes k (get_or (setting_values h) k [])
 setting_holds h r zero l = (h.nodes, record { is = refl; least = r.some; most = r.few })

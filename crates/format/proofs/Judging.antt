@@ -1,18 +1,17 @@
 -- The first check of a line that fails.
-use Rattle.std.proofs.Common.{◌≡◌, ℕ, ◌+◌, ◌<◌, ◌≤◌, List, length, Ok, Err, Result, ap, subst, inl, inr, arith, MatchResult}
+use Rattle.std.proofs.Common.{◌≡◌, ℕ, ◌+◌, ◌<◌, ◌≤◌, List, length, ap, subst, inl, inr, arith}
 use Rattle.fault.specs.Checks.{Passes, Fails}
 use Rattle.fault.proofs.Ordered.{fails_later}
-use Rattle.text.specs.Lines.{HasFields, spaced}
+use Rattle.text.specs.Lines.{HasFields}
 use Rattle.mesh.specs.declared.link.Link.{Link}
 use Rattle.mesh.specs.declared.link.LinkFault.{LinkFault}
 use Rattle.mesh.specs.Rules.{EndsDiffer, Joins}
 use Rattle.mesh.specs.Checks.{link_checks}
 use Rattle.vocab.specs.declared.kinds.Setting.{Setting}
-use Rattle.vocab.specs.declared.faults.LineFault.{LineFault}
-use Rattle.vocab.specs.declared.faults.LineFault.TheVariants.{WrongNames, BadField, BadLink}
-use Rattle.format.specs.Columns.{Order, arranged}
+use Rattle.vocab.specs.declared.faults.LineFault.TheVariants.{BadField, BadLink}
+use Rattle.format.specs.Columns.{Order}
 use Rattle.format.specs.Tables.{setting_takes, link_takes}
-use Rattle.format.specs.Verdict.{names_checks, field_checks, setting_checks, link_line_checks, place_of, SettingLine, LinkLine}
+use Rattle.format.specs.Verdict.{field_checks, setting_checks, link_line_checks, place_of, SettingLine, LinkLine}
 use Rattle.format.proofs.Unique.{setting_same, link_same}
 
 -- The root is not below nodes: every field is taken, and the only settings that the line writes break the rule.

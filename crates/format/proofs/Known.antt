@@ -3,7 +3,7 @@ use Rattle.std.proofs.Common.{◌≡◌, ℕ, zero, suc, ◌^◌, ◌<◌, ◌�
 use Rattle.std.specs.List.{AllByRecursion}
 use Rattle.std.specs.Str.{bytes_eq}
 use Rattle.std.proofs.lemmas.Fmt.{digits_decimal, decimal_nonempty}
-use Rattle.std.proofs.ByRecursion.{All-from_get_or}
+use Rattle.std.proofs.lemmas.List.Elements.{All-from_get_or, recursion_from_All}
 use Rattle.std.proofs.lemmas.Slice.Eq.{bytes_eq-Decides}
 use Rattle.std.proofs.lemmas.Str.Parse.{digit_at}
 use Rattle.std.proofs.lemmas.Bool.{leb-true, ltb-true, and_parts, not-true, both_ways}
@@ -108,7 +108,7 @@ names_apart Steps = single_apart (names Steps) refl
 
 -- a number is a field
 pub decimal_field : (n : ℕ) → n < 2 ^ 64 → Field (decimal n)
-decimal_field n h = (decimal_nonempty n h, All-from_get_or Mark (decimal n) 0 (λ i l. let d = digit_at (decimal n) i (digits_decimal own n h) l in (omega arith, omega arith)))
+decimal_field n h = (decimal_nonempty n h, recursion_from_All Mark (decimal n) (All-from_get_or Mark (decimal n) 0 (λ i l. let d = digit_at (decimal n) i (digits_decimal own n h) l in (omega arith, omega arith))))
 
 -- the columns of the rows are fields
 pub setting_fields : (h : Setting) → SettingInRange h → AllByRecursion Field (setting_values h)

@@ -1,13 +1,14 @@
 -- Orders of columns.
-use Rattle.std.proofs.Common.{◌≡◌, ℕ, zero, suc, ◌+◌, ◌<◌, ◌≤◌, ◌⊎◌, List, [], ◌∷◌, ◌++◌, length, get_or, take, sym, refl, ap, ◌∙◌, subst, inl, inr, ⊎_elim, arith}
+use Rattle.std.proofs.Common.{◌≡◌, ℕ, suc, ◌+◌, ◌<◌, ◌≤◌, ◌⊎◌, List, [], ◌∷◌, ◌++◌, length, get_or, take, Contains, sym, refl, ap, ◌∙◌, subst, inl, inr, ⊎_elim, arith}
 use mathlib.Core.List.Memᴰ
 use mathlib.Core.List.{Memᴰ}
 use native.Mathlib.Decide.{ℕ_discrete}
-use Rattle.std.specs.List.{ContainsAt as Has, AllByRecursion}
-use Rattle.std.proofs.ByRecursion.{All-push, All-get_or, has_get_or}
-use Rattle.std.proofs.lemmas.List.{length_push, map_push, get_or-map, length-map, take_more, get_or_push, get_or_append_left, take_all, length-take-le, get_or-take}
-use Rattle.std.proofs.lemmas.Bool.{cases_lt, ne_eqb, eq-eqb}
+use Rattle.std.specs.List.{AllByRecursion}
+use Rattle.std.proofs.lemmas.List.Elements.{All-from_recursion, Contains-get_or}
+use Rattle.std.proofs.lemmas.List.{length_push, map_push, get_or-map, get_or_default, length-map, take_more, get_or_push, get_or_append_left, take_all, length-take-le, get_or-take}
+use Rattle.std.proofs.lemmas.Bool.{cases_lt}
 use Rattle.text.specs.Lines.{Field, Cut, spaced}
+use Rattle.text.proofs.Recursion.{pushed}
 use Rattle.format.specs.Columns.{Order, arranged}
 use Rattle.format.specs.Filling.{Apart}
 use Rattle.mesh.proofs.Pigeons.{Distinct, pigeons}
@@ -40,7 +41,7 @@ distinct (x ∷ xs) h = (
 )
 
 pub below : (n : ℕ) (o : List ℕ) → Order n o → (x : ℕ) → Memᴰ x o → x < n
-below n o q x r = let t = mem_has x o r in subst (λ y. y < n) t.2 (All-get_or (λ y. y < n) o t.0 0 t.1 q.below)
+below n o q x r = let t = mem_has x o r in subst (λ y. y < n) t.2 (All-from_recursion (λ y. y < n) o q.below t.0 0 t.1)
 
 pub each : (n : ℕ) (o : List ℕ) → Order n o → (k : ℕ) → k < n → (i : ℕ) × (i < length o) × (get_or o i 0 ≡ k)
 each n o q k l = elim (mem_or k o) [
@@ -77,13 +78,13 @@ module _ (ws fs : List (List ℕ)) (i : ℕ) (o : List ℕ) (apart : Apart ws) (
   at : (p : List ℕ) → Order (length ws) p → fs ≡ arranged p ws → (j : ℕ) → j < length fs → (get_or p j 0 < length ws) × (get_or ws (get_or p j 0) [] ≡ get_or fs j [])
   at p q e j l =
       let m : j < length p = omega (arith, q.long) in
-      (All-get_or (λ k. k < length ws) p j 0 m q.below, sym (get_or-map (λ k. get_or ws k []) p j 0 [] m) ∙ ap (λ t. get_or t j []) (sym e))
+      (All-from_recursion (λ k. k < length ws) p q.below j 0 m, sym (get_or-map (λ k. get_or ws k []) p j 0 [] m) ∙ ap (λ t. get_or t j []) (sym e))
 
   same_at : (p : List ℕ) → Order (length ws) p → fs ≡ arranged p ws → (j : ℕ) → j < i → get_or o j 0 ≡ get_or p j 0
   same_at p q e j l =
       let m : j < length o = omega (arith, size) in
       let h = at p q e j (omega arith) in
-      apart (get_or o j 0) (get_or p j 0) (All-get_or (λ k. k < length ws) o j 0 m s.below) h.0
+      apart (get_or o j 0) (get_or p j 0) (All-from_recursion (λ k. k < length ws) o s.below j 0 m) h.0
       (sym (get_or-map (λ k. get_or ws k []) o j 0 [] m) ∙ ap (λ t. get_or t j []) s.is ∙ get_or-take i fs j [] l ∙ sym h.1)
 
   -- no word is the next field
@@ -92,22 +93,22 @@ module _ (ws fs : List (List ℕ)) (i : ℕ) (o : List ℕ) (apart : Apart ws) (
 
   module _ (k : ℕ) (lt : k < length ws) (word : get_or ws k [] ≡ get_or fs i []) where
     -- the next field's word came before
-    pub again : Has o k → NoOrder ws fs
+    pub again : Contains o k → NoOrder ws fs
     again (j, l, here) p q e =
         let m : j < i = omega (arith, size) in
         let h = at p q e i in' in
-        q.once j i m (omega (arith, q.long)) (sym (same_at p q e j m) ∙ here 0 ∙ apart _ _ lt h.0 (word ∙ sym h.1))
+        q.once j i m (omega (arith, q.long)) (sym (same_at p q e j m) ∙ get_or_default o j 0 k l ∙ here ∙ apart _ _ lt h.0 (word ∙ sym h.1))
 
-    pub one_more : (Has o k → ⊥) → Sofar ws fs (i + 1) (o ++ k ∷ [])
+    pub one_more : (Contains o k → ⊥) → Sofar ws fs (i + 1) (o ++ k ∷ [])
     one_more new = record {
       is = map_push (λ a. get_or ws a []) o k ∙ ap (λ t. t ++ get_or ws k [] ∷ []) s.is ∙ ap (λ t. take i fs ++ t ∷ []) word ∙ sym (take_more fs i [] in');
-      below = All-push (λ a. a < length ws) o k s.below lt;
+      below = pushed (λ a. a < length ws) o k s.below lt;
       once = λ a b l m e.
           let grown = length_push o k in
           let first : get_or (o ++ k ∷ []) a 0 ≡ get_or o a 0 = get_or_append_left o (k ∷ []) 0 a (omega arith) in
           ⊎_elim
           (λ inside. s.once a b l inside (sym first ∙ e ∙ get_or_append_left o (k ∷ []) 0 b inside))
-          (λ last. let w : length o ≡ b = omega arith in new (subst (Has o) (sym first ∙ e ∙ get_or_push o k 0 b w) (has_get_or o a 0 (omega arith))))
+          (λ last. let w : length o ≡ b = omega arith in new (subst (Contains o) (sym first ∙ e ∙ get_or_push o k 0 b w) (Contains-get_or o a 0 (omega arith))))
           (cases_lt b (length o));
     }
 
@@ -119,7 +120,7 @@ done ws fs i o long past s =
 -- fields in an order of columns are fields
 pub arranged_fields : (o : List ℕ) (xs : List (List ℕ)) → AllByRecursion (λ k. k < length xs) o → AllByRecursion Field xs → AllByRecursion Field (arranged o xs)
 arranged_fields [] xs b w = tt
-arranged_fields (k ∷ o) xs b w = (All-get_or Field xs k [] b.0 w, arranged_fields o xs b.1 w)
+arranged_fields (k ∷ o) xs b w = (All-from_recursion Field xs w k [] b.0, arranged_fields o xs b.1 w)
 
 pub cut_of : (o : List ℕ) (xs : List (List ℕ)) (line : List ℕ) → Order (length xs) o → 0 < length xs → AllByRecursion Field xs → line ≡ spaced (arranged o xs) → Cut (length xs) line (arranged o xs)
 cut_of o xs line q some w e =

@@ -5,7 +5,7 @@
 -- line that goes on can't be the reason to stop.
 use Rattle.std.proofs.Common.{◌≡◌, ℕ, ◌+◌, ◌<◌, ◌≤◌, true, false, ◌⊎◌, List, [], ◌∷◌, ◌++◌, map, length, get_or, sym, refl, ap, ◌∙◌, subst, inl, inr, append_assoc, append-nil, arith}
 use Rattle.std.specs.List.{flat_map, AllByRecursion}
-use Rattle.std.proofs.ByRecursion.{All-get_or}
+use Rattle.std.proofs.lemmas.List.Elements.{All-from_recursion}
 use Rattle.std.proofs.lemmas.List.{length-append, get_or_at, get_or_append_left, ext_get_or, get_or-map}
 use Rattle.std.proofs.lemmas.Bool.{true≢false}
 use Rattle.fault.specs.Checks.{Passes, Fails}
@@ -40,7 +40,7 @@ order_same t o p line q r e f =
     let g = fields_same line _ _ a.0 b.0 in
     ext_get_or 0 o p (q.long ∙ sym r.long) (λ i l.
     let m : i < length p = omega (arith, q.long, r.long) in
-    names_apart t (get_or o i 0) (get_or p i 0) (All-get_or (λ k. k < length ws) o i 0 l q.below) (All-get_or (λ k. k < length ws) p i 0 m r.below)
+    names_apart t (get_or o i 0) (get_or p i 0) (All-from_recursion (λ k. k < length ws) o q.below i 0 l) (All-from_recursion (λ k. k < length ws) p r.below i 0 m)
     (sym (get_or-map (λ k. get_or ws k []) o i 0 [] l) ∙ ap (λ x. get_or x i []) g ∙ get_or-map (λ k. get_or ws k []) p i 0 [] m))
 
 -- the line leads from a place to the next
@@ -157,7 +157,7 @@ module _ (o : List ℕ) (h : Setting) (p : List ℕ) (q : Order 4 p) (few : h.no
       let n : length (ls ++ l ∷ ms) ≡ length ls + length (l ∷ ms) = length-append ls (l ∷ ms) in
       let here : get_or (ls ++ l ∷ ms) (length ls) l ≡ l = get_or_at ls l ms l (length ls) refl in
       let in' : length ls < length (ls ++ l ∷ ms) = omega arith in
-      let w = subst (λ x. InRange h.nodes x × EndsDiffer x) here (All-get_or (λ x. InRange h.nodes x × EndsDiffer x) (ls ++ l ∷ ms) (length ls) l in' k.each) in
+      let w = subst (λ x. InRange h.nodes x × EndsDiffer x) here (All-from_recursion (λ x. InRange h.nodes x × EndsDiffer x) (ls ++ l ∷ ms) k.each (length ls) l in') in
       let fresh : Joins ls l.from l.to → ⊥ = λ j.
       let first : get_or (ls ++ l ∷ ms) j.0 l ≡ get_or ls j.0 l = get_or_append_left ls (l ∷ ms) l j.0 j.1 in
       let x = j.2 l in

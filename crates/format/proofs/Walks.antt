@@ -2,10 +2,11 @@
 use Rattle.std.proofs.Common.{◌≡◌, ℕ, ◌+◌, ◌<◌, ◌≤◌, true, false, cond, ◌⊎◌, List, [], ◌∷◌, ◌++◌, map, length, Err, sym, refl, ap, ◌∙◌, subst, inl, inr, append_assoc, append-nil, arith}
 use native.Mathlib.Decide.{ℕ_discrete}
 use Rattle.std.specs.List.{flat_map, AllByRecursion}
-use Rattle.std.proofs.ByRecursion.{All-push, All-append, All-weaker}
+use Rattle.std.proofs.lemmas.List.Elements.{All-append, All-weaker, All-from_recursion, recursion_from_All}
 use Rattle.std.proofs.lemmas.List.{length-append, length_push, map_push, flat_map_more}
 use Rattle.fault.specs.Checks.{Fails}
 use Rattle.text.specs.Lines.{Mark, Field, Fields, Unbroken, spaced}
+use Rattle.text.proofs.Recursion.{pushed}
 use Rattle.mesh.specs.declared.link.Link.{Link}
 use Rattle.mesh.specs.Rules.{InRange, EndsDiffer, Joins}
 use Rattle.mesh.proofs.Grown.{once_push}
@@ -24,12 +25,12 @@ use Rattle.format.specs.Stages.{NextLine}
 use Rattle.format.specs.Verdict.{Place, at_setting_names, at_setting, at_link_names, at_links, at_steps, UpTo, Refuses, MayEnd, line_number, line_checks, digit_first, names_checks, link_line_checks, LinkLine}
 
 marks_unbroken : (f : List ℕ) → AllByRecursion Mark f → Unbroken f
-marks_unbroken f w = All-weaker Mark (λ b. b ≡ 10 → ⊥) (λ b m e. omega (arith, m.0, e)) f w
+marks_unbroken f w = recursion_from_All _ f (All-weaker Mark (λ b. b ≡ 10 → ⊥) (λ b m e. omega (arith, m.0, e)) f (All-from_recursion Mark f w))
 
 spaced_unbroken : (fs : List (List ℕ)) → AllByRecursion Field fs → Unbroken (spaced fs)
 spaced_unbroken [] w = tt
 spaced_unbroken (f ∷ []) w = marks_unbroken f w.0.1
-spaced_unbroken (f ∷ g ∷ fs) w = All-append (λ b. b ≡ 10 → ⊥) f (32 ∷ spaced (g ∷ fs)) (marks_unbroken f w.0.1) (λ e. omega arith, spaced_unbroken (g ∷ fs) w.1)
+spaced_unbroken (f ∷ g ∷ fs) w = recursion_from_All _ (f ++ 32 ∷ spaced (g ∷ fs)) (All-append (λ b. b ≡ 10 → ⊥) f (32 ∷ spaced (g ∷ fs)) (All-from_recursion _ f (marks_unbroken f w.0.1)) (All-from_recursion _ (32 ∷ spaced (g ∷ fs)) (λ e. omega arith, spaced_unbroken (g ∷ fs) w.1)))
 
 -- a line of fields has no line feed
 pub fields_unbroken : (line : List ℕ) (fs : List (List ℕ)) → Fields line fs → Unbroken line
@@ -105,7 +106,7 @@ module _ (bytes rest line after : List ℕ) (is : rest ≡ line ++ 10 ∷ after)
           u.sound.2,
           record {
             few = omega (arith, length_push ls l);
-            each = All-push (λ x. InRange h.nodes x × EndsDiffer x) ls l k.each (w.range, d);
+            each = pushed (λ x. InRange h.nodes x × EndsDiffer x) ls l k.each (w.range, d);
             once = once_push ls l k.once fresh;
           },
         );
@@ -125,7 +126,7 @@ module _ (bytes rest line after : List ℕ) (is : rest ≡ line ++ 10 ∷ after)
   pub more_steps : (o : List ℕ) (h : Setting) (p : List ℕ) (ls : List Link) (q : List ℕ) (ss : List Step) (s : Step) → UpTo bytes (at_steps o h p ls q ss) rest → s.pick ≤ 65535 → line ≡ spaced (arranged q (step_values s)) → UpTo bytes (at_steps o h p ls q (ss ++ s ∷ [])) after
   more_steps o h p ls q ss s u k e = record {
     short = u.short;
-    sound = (u.sound.0, u.sound.1, u.sound.2, u.sound.3, u.sound.4, All-push (λ x. x.pick ≤ 65535) ss s u.sound.5 k);
+    sound = (u.sound.0, u.sound.1, u.sound.2, u.sound.3, u.sound.4, pushed (λ x. x.pick ≤ 65535) ss s u.sound.5 k);
     is =
         grown bytes ((setting_text o h ++ links_text p ls) ++ steps_text q ss) rest line _ after u.is is e
         ∙ ap (λ t. t ++ after) (append_assoc (setting_text o h ++ links_text p ls) (steps_text q ss) (row q (step_values s))

@@ -1,4 +1,5 @@
 pub mod Columns
+-- For the fact that the type `Columns` carries; no clause reads it.
 pub mod OrdersOnce
 pub mod Tables
 pub mod Content

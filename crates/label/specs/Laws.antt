@@ -10,11 +10,18 @@ use Rattle.label.specs.contracts.width.Width as width
 use Rattle.label.specs.declared.cost.Cost.{Cost}
 use Rattle.label.specs.declared.width.Width.{Width}
 
--- Each kind is lawful; two labels of one metric are one label.
+-- two labels of one metric are one label
+pub cost_same : (a b : Cost) → a.metric ≡ b.metric → a ≡ b
+cost_same a b e = grind (arith, cost.the_row.coded.inj)
+
+pub width_same : (a b : Width) → a.metric ≡ b.metric → a ≡ b
+width_same a b e = grind (arith, width.the_row.coded.inj)
+
+-- each kind is lawful
 pub cost_lawful : Lawful cost_kind
 cost_lawful = record {
   below = λ a. omega arith;
-  same = λ a b e. grind (arith, cost.the_row.coded.inj);
+  same = cost_same;
   worst = λ a. a.fits;
   keeps = λ a b l h. omega arith;
   never = λ a l. omega arith;
@@ -23,7 +30,7 @@ cost_lawful = record {
 pub width_lawful : Lawful width_kind
 width_lawful = record {
   below = λ a. omega arith;
-  same = λ a b e. grind (arith, width.the_row.coded.inj);
+  same = λ a b e. width_same a b (omega arith);
   worst = λ a. omega arith;
   keeps = λ a b l h. omega arith;
   never = λ a l. omega arith;

@@ -1,5 +1,5 @@
 //! Making meshes: rule by rule, in the order of a session file.
-ghost use Rattle.std.specs.Prelude.{◌≡◌, ◌+◌, ◌*◌, ◌<◌, ◌≤◌, [], ◌∷◌, ◌++◌, length, IfOk, vec_capacity, IsTrue, MatchResult, ◌↔◌, nat_le};
+ghost use Rattle.std.specs.Prelude.{◌≡◌, ◌+◌, ◌*◌, ◌≤◌, [], ◌∷◌, ◌++◌, length, IfOk, vec_capacity, IsTrue, MatchResult, ◌↔◌, nat_le};
 ghost use Rattle.fault.specs.Checks.{Passes, Fails};
 ghost use Rattle.mesh.specs.Rules.{InRange};
 ghost use Rattle.mesh.specs.Checks.{link_fault_number, mesh_fault_number, link_checks, root_checks, mesh_checks};
@@ -128,9 +128,8 @@ impl Mesh {
     {
         let mut mesh = Mesh::open(room, nodes, root)?;
         for (k, link) in links.iter().enumerate() {
-            if let Err(fault) = mesh.join(*link) {
-                return Err(MeshFault::BadLink(k, fault));
-            }
+            mesh.join(*link)
+                .map_err(|fault| MeshFault::BadLink(k, fault))?;
         }
         Ok(mesh)
     }

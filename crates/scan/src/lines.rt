@@ -37,8 +37,5 @@ pub fn next_line(number: usize, rest: &[u8]) -> Result<(Line<'_>, &[u8]), ReadFa
 pub fn is_link_line(line: &[u8]) -> bool
     ensures { result ≡ digit_first line.now }
 {
-    match line {
-        [] => false,
-        [first, _rest @ ..] => first.is_ascii_digit(),
-    }
+    line.first().is_some_and(|first| first.is_ascii_digit())
 }

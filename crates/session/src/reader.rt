@@ -1,6 +1,5 @@
 //! The reader: a session file, line by line.
-ghost use Rattle.std.specs.Prelude.{◌≡◌, ℕ, ◌+◌, ◌*◌, ◌<◌, ◌≤◌, true, false, List, [], length, IfOk, vec_len, vec_capacity, MatchResult, OnOk};
-ghost use Rattle.format.specs.Columns.{Order};
+ghost use Rattle.std.specs.Prelude.{◌≡◌, ℕ, ◌≤◌, List, [], length, IfOk, vec_len, vec_capacity, MatchResult, OnOk};
 ghost use Rattle.format.specs.Stages.{LinkNamesRead, LinkNamesRefused, LinksRead, LinksRefused, StepsRead, StepsRefused};
 ghost use Rattle.format.specs.Verdict.{UpTo, Refuses, at_link_names, Judged};
 ghost use Rattle.format.specs.Content.{standard};

@@ -87,7 +87,7 @@ pub fn length_of<T: Put>(what: &T) -> usize
     output.end
 }
 
-/// Appends a text, and answers its length; none where the output is too short, which then stays as it was.
+/// Writes a text, and answers its length; none where the output is too short, which then stays as it was.
 #[tactic(auto, using(text::proofs::Stamps::at_front))]
 pub fn write_whole<T: Put>(what: &T, out: &mut [u8]) -> Option<usize>
     requires { length (T.text what.now) < 2 ^ 64 }

@@ -16,7 +16,7 @@ pub fn session_length(session: &Session) -> usize
     length_of(session)
 }
 
-/// Appends a session in the standard column order, and answers the length; none where the output is too short, which
+/// Writes a session in the standard column order, and answers the length; none where the output is too short, which
 /// then stays as it was. Reading what was written gives the same session.
 pub fn write(session: &Session, out: &mut [u8]) -> Option<usize>
     ensures writes { Written (standard (content session.now)) out.old out.new result }
@@ -33,7 +33,7 @@ pub fn report_length(answer: &Result<Session, ReadFault>) -> usize
     length_of(answer)
 }
 
-/// Appends what is printed of an answer of the reader, and answers the length; none where the output is too short,
+/// Writes what is printed of an answer of the reader, and answers the length; none where the output is too short,
 /// which then stays as it was.
 #[tactic(auto, using(crate::proofs::Sessions::report_short))]
 pub fn report(answer: &Result<Session, ReadFault>, out: &mut [u8]) -> Option<usize>

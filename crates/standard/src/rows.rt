@@ -1,5 +1,4 @@
 //! The rows of the tables, a session and a fault, as they are written.
-ghost use Rattle.std.specs.Prelude.{[], ◌∷◌};
 ghost use Rattle.format.specs.Content.{standard};
 ghost use Rattle.format.specs.Tables.{setting_values, link_values, step_values};
 ghost use Rattle.session.specs.Seen.{content, judgement};

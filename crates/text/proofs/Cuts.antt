@@ -1,8 +1,8 @@
 -- A line and its fields.
 use Rattle.std.proofs.Common.{◌≡◌, ℕ, ◌+◌, ◌-◌, ◌<◌, ◌≤◌, ◌⊎◌, List, [], ◌∷◌, ◌++◌, length, get_or, take, drop, sym, refl, ap, ◌∙◌, subst, inl, inr, append_assoc, append-nil, add-zero, arith}
 use Rattle.std.specs.List.{AllByRecursion}
-use Rattle.std.proofs.ByRecursion.{All-push}
-use Rattle.std.proofs.lemmas.List.{length_push, length-append, length-take-le, take-append-drop, take_at, get_or-drop, length-drop, drop_more, take_rest, nil_from_length}
+use Rattle.text.proofs.Recursion.{pushed}
+use Rattle.std.proofs.lemmas.List.{length_push, length-append, take-append-drop, take_at, get_or-drop, length-drop, drop_more, take_rest, nil_from_length}
 use Rattle.text.specs.Lines.{Mark, Field, Fields, Parted, spaced}
 use Rattle.text.specs.FieldsOnce.{same_cut, no_stop, no_space}
 
@@ -66,15 +66,11 @@ led_push : (fs : List (List ℕ)) (f more : List ℕ) → led fs ++ (f ++ (32 �
 led_push [] f more = sym (append_assoc f (32 ∷ []) more)
 led_push (g ∷ fs) f more = append_assoc g (32 ∷ led fs) (f ++ (32 ∷ more)) ∙ ap (λ t. g ++ (32 ∷ t)) (led_push fs f more) ∙ sym (append_assoc g (32 ∷ led (fs ++ f ∷ [])) more)
 
--- nothing came yet
-pub start : (text : List ℕ) → Sofar text [] text
-start text = record { is = refl; each = tt; left = λ l. l }
-
 -- one field more, and a space
 pub one_more : (text : List ℕ) (fs : List (List ℕ)) (rest f more : List ℕ) → Sofar text fs rest → Field f → rest ≡ f ++ (32 ∷ more) → Sofar text (fs ++ f ∷ []) more
 one_more text fs rest f more s w e = record {
   is = s.is ∙ ap (λ t. led fs ++ t) e ∙ led_push fs f more;
-  each = All-push Field fs f s.each w;
+  each = pushed Field fs f s.each w;
   left = λ l. elim (stops rest f 32 more e w.1 no_space (s.left l)) [ inl z ↦ absurd (omega arith) | inr x ↦ x.1 ];
 }
 
@@ -82,7 +78,7 @@ one_more text fs rest f more s w e = record {
 pub done : (text : List ℕ) (fs : List (List ℕ)) (rest f after : List ℕ) → Sofar text fs rest → Field f → rest ≡ f ++ (10 ∷ after) → (text ≡ (led fs ++ f) ++ 10 ∷ after) × Fields (led fs ++ f) (fs ++ f ∷ [])
 done text fs rest f after s w e = (
   s.is ∙ ap (λ t. led fs ++ t) e ∙ sym (append_assoc (led fs) f (10 ∷ after)),
-  record { is = spaced_led fs f; each = All-push Field fs f s.each w; some = omega (arith, length_push fs f) },
+  record { is = spaced_led fs f; each = pushed Field fs f s.each w; some = omega (arith, length_push fs f) },
 )
 
 -- what `span` and `split_at` found: the first n bytes of rest, which a field may hold, and what follows
@@ -96,9 +92,6 @@ pub record Span (rest f after : List ℕ) (n : ℕ) : Type 0 where
 module _ (rest f after : List ℕ) (n : ℕ) (s : Span rest f after n) where
   pub all_marks : AllByRecursion Mark f
   all_marks = subst (AllByRecursion Mark) (sym s.front) s.marks
-
-  pub field_of : (n ≡ 0 → ⊥) → Field f
-  field_of some = (omega (arith, ap length s.front, length-take-le n rest s.within, some), all_marks)
 
   pub whole : rest ≡ f ++ after
   whole = sym (take-append-drop n rest) ∙ ap (λ t. t ++ drop n rest) (sym s.front) ∙ ap (λ t. f ++ t) (sym s.back)

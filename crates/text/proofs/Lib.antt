@@ -1,3 +1,4 @@
 pub mod Digits
+pub mod Recursion
 pub mod Cuts
 pub mod Stamps

@@ -1,5 +1,5 @@
 -- One text written after another.
-use Rattle.std.proofs.Common.{◌≡◌, ℕ, suc, ◌+◌, ◌^◌, ◌<◌, ◌≤◌, List, [], ◌∷◌, ◌++◌, length, take, drop, set, sym, refl, ap, ◌∙◌, append_assoc, add-zero, add_assoc, zero-add, arith}
+use Rattle.std.proofs.Common.{◌≡◌, ℕ, suc, ◌+◌, ◌^◌, ◌<◌, ◌≤◌, List, [], ◌∷◌, ◌++◌, length, take, drop, set, sym, ap, ◌∙◌, append_assoc, add-zero, add_assoc, zero-add, arith}
 use Rattle.std.proofs.lemmas.List.{length-append, length-set, take_more_set, drop-set-lt, take-append-drop}
 use Rattle.text.specs.declared.output.Output.{Output}
 use Rattle.text.specs.Output.{stamped, Puts, Appends}
@@ -9,10 +9,6 @@ stamped_on old at [] t = ap (λ k. stamped old k t) (add-zero at)
 stamped_on old at (b ∷ s) t =
     let e : at + suc (length s) ≡ (at + 1) + length s = omega arith in
     ap (λ k. stamped (stamped (set old at b) (at + 1) s) k t) e ∙ stamped_on (set old at b) (at + 1) s t
-
--- Nothing written.
-pub none : (old : List ℕ) (at : ℕ) → Puts old at [] old at
-none old at = record { place = λ _. sym (add-zero at); after = λ _. refl }
 
 -- A call that writes t where the last one ended: s and then t were written.
 pub then : {old mid new : List ℕ} {at end last : ℕ} {s t : List ℕ} → Puts old at s mid end → Puts mid end t new last → Puts old at (s ++ t) new last
@@ -24,9 +20,6 @@ then {old} {mid} {new} {at} {end} {last} {s} {t} v w =
           let a = v.place (omega arith) in
           w.after (omega arith) ∙ ap (λ x. stamped x end t) (v.after (omega arith)) ∙ ap (λ k. stamped (stamped old at s) k t) a ∙ stamped_on old at s t;
     }
-
-pub one : (old : List ℕ) (at b : ℕ) → Puts old at (b ∷ []) (set old at b) (at + 1)
-one old at b = record { place = λ _. refl; after = λ _. refl }
 
 -- Where the text fits, it stands at its place, and all else is as it was.
 pub stamped_is : (old : List ℕ) (at : ℕ) (s : List ℕ) → at + length s ≤ length old → stamped old at s ≡ take at old ++ (s ++ drop (at + length s) old)
@@ -43,10 +36,6 @@ pub at_front : (old s new : List ℕ) (end : ℕ) → length s ≤ length old �
 at_front old s new end h small w =
     let z = zero-add (length s) in
     (w.place (omega arith) ∙ z, w.after (omega arith) ∙ stamped_is old 0 s (omega arith) ∙ ap (λ k. s ++ drop k old) z)
-
--- nothing written to an output
-pub none_written : (o : Output) → Appends o [] o
-none_written o = record { puts = none o.bytes.now o.end; same = refl }
 
 -- one text written to an output after another
 pub both_written : {o m n : Output} {s t : List ℕ} → Appends o s m → Appends m t n → Appends o (s ++ t) n

@@ -1,5 +1,5 @@
 //! A text cut into lines, and a line into fields.
-ghost use Rattle.std.specs.Prelude.{◌≡◌, ◌<◌, ◌≤◌, length, take, slice_index, All};
+ghost use Rattle.std.specs.Prelude.{◌<◌, ◌≤◌, length, take, slice_index, All};
 ghost use Rattle.text.specs.FirstLine.{FirstLine};
 ghost use Rattle.text.specs.Lines.{Mark, Parted};
 
@@ -21,8 +21,7 @@ fn span(text: &[u8]) -> usize
         .unwrap_or(text.len())
 }
 
-/// The line of fields at the front of a text: how many fields it has, the line without its line feed, and what
-/// follows. None where the text does not begin with fields, parted by one space, and then a line feed.
+/// The line of fields at the front of a text, without its line feed, and what follows. None where the text does not begin with fields, parted by one space, and then a line feed.
 pub fn first_line(text: &[u8]) -> Option<(Line<'_>, &[u8])>
     ensures { FirstLine text.now result }
 {

@@ -3,7 +3,7 @@
 //! Each text is written from a place on, as far as the output reaches. So a first writing into an empty output measures
 //! a text, and a second one writes it.
 ghost use Rattle.std.specs.Prelude.{◌≡◌, [], ◌∷◌, decimal};
-ghost use Rattle.text.specs.Output.{Puts, Appends};
+ghost use Rattle.text.specs.Output.{Appends};
 
 /// A caller's output, and the place from which the next text is written on. Past the end nothing is written, but the
 /// place goes on.

@@ -21,10 +21,9 @@ pub trait Word: Copy + 'static {
 pub fn word_of<W: Word>(text: &[u8]) -> Result<W, FieldFault>
     ensures { MatchResult result (λ value. text.now ≡ W.word value) (λ _. ((value : W) → text.now ≢ W.word value)) }
 {
-    for value in W::all() {
-        if value.word() == text {
-            return Ok(*value);
-        }
-    }
-    Err(FieldFault)
+    W::all()
+        .iter()
+        .find(|value| value.word() == text)
+        .copied()
+        .ok_or(FieldFault)
 }

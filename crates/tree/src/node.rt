@@ -3,7 +3,7 @@ ghost use Rattle.std.specs.Prelude.{◌≡◌};
 ghost use Rattle.tree.specs.Rules.{after, outcome, settled, done};
 
 /// One node's record.
-#[derive(Clone, Copy, PartialEq, Eq, Hash, Debug)]
+#[derive(Clone, Copy, Debug, PartialEq, Eq, Hash)]
 pub struct Node {
     pub active: bool,
     /// Whether the node is in the tree.
@@ -15,7 +15,7 @@ pub struct Node {
 }
 
 /// What happens at a node.
-#[derive(Clone, Copy, PartialEq, Eq, Hash, Debug)]
+#[derive(Clone, Copy, Debug, PartialEq, Eq, Hash)]
 pub enum Event {
     /// A message with this mark arrives.
     Received(u16),
@@ -26,7 +26,7 @@ pub enum Event {
 }
 
 /// What may come of it.
-#[derive(Clone, Copy, PartialEq, Eq, Hash, Debug)]
+#[derive(Clone, Copy, Debug, PartialEq, Eq, Hash)]
 pub enum Outcome {
     /// A signal goes to this node.
     Signal(u16),

@@ -1,5 +1,5 @@
 use Rattle.std.proofs.Common.{◌≡◌, None, Some, Option, ok_or, Err, Result, ℕ, ◌+◌, ◌<◌, eqb, List, [], length, get_or, take, drop, sym, refl, ap, ◌∙◌, subst, arith}
-use Rattle.std.proofs.lemmas.List.Elements.{contains_decides}
+use Rattle.std.proofs.lemmas.List.Elements.{contains_decides, Contains-from_at, at_from_Contains}
 use Rattle.std.proofs.lemmas.List.{length-map, length-replicate, length-set, take_more_set, take_all}
 use Rattle.std.proofs.lemmas.Bool.{both_ways}
 use Rattle.std.proofs.lemmas.Bool.Decides.{Decides-eqb}
@@ -58,7 +58,7 @@ pub returns-then-contains : goal.returns-then-contains
 returns-then-contains g c =
     let p = (goal.at.returns-then-contains g c).After-find in
     let h = subst (Found (texts c.args.words.now) c.first_field.result.0.now) c.in_ok-k.ensures.ok_part c.find.ensures in (
-      no_line g p (again _ _ _ _ c.requires.apart (long g p) (within g p) c.loop-i.invariant.1.3 c.in_ok-k.k h.0 (h.1 ∙ (cut g p).0) ((contains_decides eqb Decides-eqb _ _ _ c.contains.ensures.cases).0 c.if-contains.true)),
+      no_line g p (again _ _ _ _ c.requires.apart (long g p) (within g p) c.loop-i.invariant.1.3 c.in_ok-k.k h.0 (h.1 ∙ (cut g p).0) (Contains-from_at _ _ ((contains_decides eqb Decides-eqb _ _ _ c.contains.ensures.cases).0 c.if-contains.true))),
       refl,
     )
 
@@ -75,7 +75,7 @@ loop-i-preserved g c =
         (cut g p).1,
         subst (Sofar (texts c.args.words.now) i.1.0 (c.loop-i.i + 1)) (sym (take_more_set c.loop-i.order c.loop-i.i c.in_ok-k.k inside))
             (one_more _ _ _ _ c.requires.apart (long g p) (within g p) i.1.3 c.in_ok-k.k h.0 (h.1 ∙ (cut g p).0)
-            (λ has. both_ways _ c.if-contains.false ((contains_decides eqb Decides-eqb _ _ _ c.contains.ensures.cases).1 has))),
+            (λ has. both_ways _ c.if-contains.false ((contains_decides eqb Decides-eqb _ _ _ c.contains.ensures.cases).1 (at_from_Contains _ _ has)))),
       ),
     )
 

@@ -9,5 +9,5 @@ invariant-loop-k l =
     Passes (root_checks l.nodes l.root)
     × (l.mesh.nodes ≡ l.nodes)
     × (l.mesh.root ≡ l.root)
-    × (vec_items l.mesh.links ≡ take l.k l.links)
-    × Sofar l.nodes l.links l.k
+    × (vec_items l.mesh.links ≡ take l.k-counter l.links)
+    × Sofar l.nodes l.links l.k-counter

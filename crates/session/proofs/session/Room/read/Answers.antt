@@ -1,5 +1,5 @@
 use Rattle.std.proofs.Common.{◌≡◌, ℕ, Ok, Result, MatchResult, ◌+◌, ◌≤◌, [], ◌∷◌, ◌++◌, length, vec_items, sym, refl, ap, ◌∙◌, subst, append-nil, arith}
-use Rattle.std.proofs.ByRecursion.{All-get_or}
+use Rattle.std.proofs.lemmas.List.Elements.{All-from_recursion}
 use Rattle.std.proofs.lemmas.List.{length-append}
 use Rattle.std.proofs.lemmas.Result.{err_from_is_err_and, MatchResult-at_ok}
 use Rattle.fault.specs.Checks.{Passes, Fails}
@@ -161,7 +161,7 @@ invariant_of-result c =
     let a = (goal.at.invariant_of-result c).In_ok-step_table in
     let u = up_end a (up_steps (goal.at.invariant_of-result c).In_ok-step_columns (up_names (goal.at.invariant_of-result c).In_ok-names)) in
     record {
-      picks = λ k d l. All-get_or (λ s. s.pick ≤ 65535) (vec_items c.step_table.new.steps) k d l u.sound.5;
+      picks = λ k d l. All-from_recursion (λ s. s.pick ≤ 65535) (vec_items c.step_table.new.steps) u.sound.5 k d l;
       short = omega (arith, long a u, u.short);
     }
 
