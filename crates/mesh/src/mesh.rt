@@ -5,7 +5,7 @@ ghost use Rattle.mesh.specs.Rules.{EndsIn, CostIn, WidthIn, EndsDiffer, EveryLin
 use crate::link::Link;
 
 /// Memory for the links of a mesh, reserved before anything is read, so that no later step wants any.
-#[derive(Drop)]
+#[derive(Debug, Drop)]
 pub struct LinkRoom {
     pub links: Vec<Link>,
     pub taken: Vec<bool>,
@@ -15,7 +15,7 @@ pub struct LinkRoom {
 }
 
 /// An accepted mesh: a value of this type keeps all the rules. Links are numbered from 0 in the order they came.
-#[derive(Drop)]
+#[derive(Debug, PartialEq, Eq, Hash, Drop)]
 pub struct Mesh {
     pub nodes: u8,
     pub root: u8,

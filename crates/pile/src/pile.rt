@@ -20,7 +20,7 @@ pub trait Rule {
 }
 
 /// A channel by a rule: the items lie in the first `count` slots, the oldest in slot 0.
-#[derive(Drop)]
+#[derive(Debug, Drop)]
 pub struct Pile<'a, P, R> {
     slots: &'a mut [Item<P>],
     count: usize,

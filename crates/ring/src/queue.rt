@@ -5,7 +5,7 @@ use channel::channel::{Channel, OverSlots};
 use channel::item::{ChannelFault, Item};
 
 /// A queue: the items lie in `count` slots from the slot `first` on, round the end.
-#[derive(Drop)]
+#[derive(Debug, Drop)]
 pub struct Queue<'a, P> {
     slots: &'a mut [Item<P>],
     first: usize,

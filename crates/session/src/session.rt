@@ -8,7 +8,7 @@ use vocab::kinds::{Channel, Detector, Kind, Step};
 
 /// An accepted session: a value of this type keeps all the rules of a session file, its length included.
 // `short` writes out the content of the session, since the definition `content` names this type.
-#[derive(Drop)]
+#[derive(Debug, PartialEq, Eq, Hash, Drop)]
 pub struct Session {
     pub mesh: Mesh,
     pub kind: Kind,
@@ -20,7 +20,7 @@ pub struct Session {
 }
 
 /// Memory for what a file may hold, reserved before anything is read, so that the reader wants none.
-#[derive(Drop)]
+#[derive(Debug, Drop)]
 pub struct Room {
     pub links: LinkRoom,
     pub steps: Vec<Step>,

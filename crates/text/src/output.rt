@@ -7,7 +7,7 @@ ghost use Rattle.text.specs.Output.{Appends};
 
 /// A caller's output, and the place from which the next text is written on. Past the end nothing is written, but the
 /// place goes on.
-#[derive(Drop)]
+#[derive(Debug, Drop)]
 pub struct Output<'a> {
     pub bytes: &'a mut [u8],
     pub end: usize,
