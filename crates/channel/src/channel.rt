@@ -9,9 +9,6 @@ pub trait Channel<P: Copy> {
     // which items wait, oldest first, the capacity, and which item a take takes
     ghost holds: { Holding Self P };
 
-    // never more wait than the capacity, and a take takes one that waits
-    ghost sound: { Sound holds };
-
     /// Puts an item behind those that wait; refused exactly when the channel is full.
     fn put(&mut self, parts: P) -> Result<(), ChannelFault>
         ensures added { Added holds self.old parts self.new result }
@@ -29,6 +26,9 @@ pub trait Channel<P: Copy> {
     /// How many items can wait.
     fn capacity(&self) -> usize
         ensures { result ≡ holds.capacity self.now };
+
+    // never more wait than the capacity, and a take takes one that waits
+    ghost sound: { Sound holds };
 }
 
 /// A channel that lies over slots that its user lends.

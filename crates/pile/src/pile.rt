@@ -10,13 +10,13 @@ pub trait Rule {
     // the place of that item, counted from the oldest, among so many and for this pick
     ghost place: { ℕ → ℕ → ℕ };
 
-    // where some wait, one of them stands there
-    ghost there: { (waiting pick : ℕ) → 0 < waiting → place waiting pick < waiting };
-
     /// The place of that item, counted from the oldest.
     fn place(waiting: usize, pick: u16) -> usize
         requires { 0 < waiting }
         ensures { result ≡ place waiting pick };
+
+    // where some wait, one of them stands there
+    ghost there: { (waiting pick : ℕ) → 0 < waiting → place waiting pick < waiting };
 }
 
 /// A channel by a rule: the items lie in the first `count` slots, the oldest in slot 0.

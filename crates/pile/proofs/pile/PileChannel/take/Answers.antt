@@ -9,7 +9,7 @@ returns-clause-taken g c =
     let xs = q.slots.now in
     let p = c.place-place.result in
     let at = c.place-place.ensures in
-    let low : p < q.count = subst (λ i. i < q.count) (sym at) (g.R.Rule.there q.count c.args.pick (omega arith)) in
+    let low : p < q.count = subst (λ i. i < q.count) (sym at) (g.met.R.Rule.there q.count c.args.pick (omega arith)) in
     rw (length-take-le q.count xs q.within)
     rw (sym at)
     (part_taken xs c.rotate_left.new.self p q.count c.index-self-place.result low q.within c.rotate_left.ensures.after)
