@@ -23,9 +23,9 @@ pub struct Message<K> {
 #[derive(Clone, Copy, Debug, PartialEq, Eq, Hash)]
 pub enum ChannelFault {
     /// As many items wait as there is room for.
-    Full,
+    Full = 31,
     /// No item waits.
-    Empty,
+    Empty = 32,
 }
 
 impl ChannelFault {
@@ -33,10 +33,7 @@ impl ChannelFault {
     pub fn number(self) -> u8
         ensures { result ≡ channel_fault_number self }
     {
-        match self {
-            ChannelFault::Full => 31,
-            ChannelFault::Empty => 32,
-        }
+        self as u8
     }
 }
 

@@ -9,9 +9,9 @@ use ring::uses::queue_of_two;
 use std::process::Abort;
 use std::test::Fail;
 
-// The number of the refusal of a put, or 0.
-fn refused<P: Copy, C: Channel<P>>(c: &mut C, parts: P) -> u8 {
-    c.put(parts).err().map_or(0, ChannelFault::number)
+// What a put answers, or the number of its refusal.
+fn put<P: Copy, C: Channel<P>>(c: &mut C, parts: P) -> Result<(), u8> {
+    c.put(parts).map_err(ChannelFault::number)
 }
 
 // What a take answers, or the number of its refusal.
@@ -24,8 +24,8 @@ fn taken<P: Copy, C: Channel<P>>(c: &mut C, pick: u16) -> Result<P, u8> {
 // The refusals of a channel with room for one: of a take, of a second put, and of a take once more.
 fn room_for_one<C: Channel<u16>>(rt: &impl Abort, c: &mut C) {
     assert_eq!(rt; taken(c, 0), Err(32));
-    assert_eq!(rt; refused(c, 5), 0);
-    assert_eq!(rt; refused(c, 6), 31);
+    assert_eq!(rt; put(c, 5), Ok(()));
+    assert_eq!(rt; put(c, 6), Err(31));
     assert_eq!(rt; (c.waiting(), c.capacity()), (1, 1));
     assert_eq!(rt; taken(c, 65535), Ok(5));
     assert_eq!(rt; taken(c, 65535), Err(32));
@@ -43,7 +43,7 @@ fn one_slot(rt: HostRuntime) {
 fn no_slot(rt: HostRuntime) {
     let mut slots = [Item { parts: 0u16 }; 0];
     let mut queue = Queue::new(&mut slots);
-    assert_eq!(rt; refused(&mut queue, 1), 31);
+    assert_eq!(rt; put(&mut queue, 1), Err(31));
     assert_eq!(rt; taken(&mut queue, 0), Err(32));
 }
 
@@ -53,13 +53,13 @@ fn queue_goes_round(rt: HostRuntime) {
     let mut slots = [Item { parts: 0u16 }; 3];
     let mut queue = Queue::new(&mut slots);
     for parts in 1u16..4 {
-        assert_eq!(rt; refused(&mut queue, parts), 0);
+        assert_eq!(rt; put(&mut queue, parts), Ok(()));
     }
     assert_eq!(rt; taken(&mut queue, 9), Ok(1));
     assert_eq!(rt; taken(&mut queue, 9), Ok(2));
-    assert_eq!(rt; refused(&mut queue, 4), 0);
-    assert_eq!(rt; refused(&mut queue, 5), 0);
-    assert_eq!(rt; refused(&mut queue, 6), 31);
+    assert_eq!(rt; put(&mut queue, 4), Ok(()));
+    assert_eq!(rt; put(&mut queue, 5), Ok(()));
+    assert_eq!(rt; put(&mut queue, 6), Err(31));
     for parts in 3u16..6 {
         assert_eq!(rt; taken(&mut queue, parts), Ok(parts));
     }
@@ -70,10 +70,10 @@ fn queue_goes_round(rt: HostRuntime) {
 fn stack_takes_the_newest(rt: HostRuntime) {
     let mut slots = [Item { parts: 0u16 }; 3];
     let mut stack = Stack::new(&mut slots);
-    assert_eq!(rt; refused(&mut stack, 1), 0);
-    assert_eq!(rt; refused(&mut stack, 2), 0);
+    assert_eq!(rt; put(&mut stack, 1), Ok(()));
+    assert_eq!(rt; put(&mut stack, 2), Ok(()));
     assert_eq!(rt; taken(&mut stack, 0), Ok(2));
-    assert_eq!(rt; refused(&mut stack, 3), 0);
+    assert_eq!(rt; put(&mut stack, 3), Ok(()));
     assert_eq!(rt; taken(&mut stack, 1), Ok(3));
     assert_eq!(rt; taken(&mut stack, 0), Ok(1));
 }
@@ -84,7 +84,7 @@ fn picks(rt: HostRuntime) {
     let mut slots = [Item { parts: 0u16 }; 8];
     let mut picked = Picked::new(&mut slots);
     for parts in 10u16..15 {
-        assert_eq!(rt; refused(&mut picked, parts), 0);
+        assert_eq!(rt; put(&mut picked, parts), Ok(()));
     }
     assert_eq!(rt; taken(&mut picked, 65535), Ok(10));
     assert_eq!(rt; taken(&mut picked, 65535), Ok(14));
@@ -107,7 +107,7 @@ fn messages(rt: HostRuntime) {
         label: 70000,
         mark: 1000,
     };
-    assert_eq!(rt; refused(&mut stack, message), 0);
+    assert_eq!(rt; put(&mut stack, message), Ok(()));
     assert_eq!(rt; taken(&mut stack, 0), Ok(message));
 }
 

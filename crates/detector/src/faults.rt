@@ -9,17 +9,17 @@ use std::fmt;
 #[derive(Clone, Copy, Debug, PartialEq, Eq, Hash)]
 pub enum DetectorFault {
     /// Opened with a number of nodes outside 1 to 64, or with a root that is no node.
-    Size,
+    Size = 20,
     /// The node is not there.
-    NoNode,
+    NoNode = 21,
     /// The node is passive, so it can neither send nor become idle.
-    Passive,
+    Passive = 22,
     /// No message with this mark can be on its way.
-    BadMark,
+    BadMark = 23,
     /// No such control item can be on its way.
-    BadItem,
+    BadItem = 24,
     /// The node can send no more.
-    Spent,
+    Spent = 25,
 }
 
 impl DetectorFault {
@@ -27,14 +27,7 @@ impl DetectorFault {
     pub fn number(self) -> u8
         ensures { result ≡ detector_fault_number self }
     {
-        match self {
-            DetectorFault::Size => 20,
-            DetectorFault::NoNode => 21,
-            DetectorFault::Passive => 22,
-            DetectorFault::BadMark => 23,
-            DetectorFault::BadItem => 24,
-            DetectorFault::Spent => 25,
-        }
+        self as u8
     }
 }
 

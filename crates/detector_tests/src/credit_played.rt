@@ -1,5 +1,5 @@
 //! Exchanges played by hand from the rules of credit recovery.
-use crate::played::{Row, open_fault, play};
+use crate::played::{Row, opened, play};
 use credit::credit::Credit;
 use detector::detector::Detector;
 use detector::told::Call::{Control, Idled, Received, Sent};
@@ -49,15 +49,15 @@ const FAULTS: [Row; 10] = [
 fn faults(rt: HostRuntime) -> Result<(), Fail> {
     assert_eq!(rt;
         (
-            open_fault::<Credit>(0, 0),
-            open_fault::<Credit>(65, 0),
-            open_fault::<Credit>(3, 3)
+            opened::<Credit>(0, 0),
+            opened::<Credit>(65, 0),
+            opened::<Credit>(3, 3)
         ),
-        (20, 20, 20)
+        (Err(20), Err(20), Err(20))
     );
     assert_eq!(rt;
-        (open_fault::<Credit>(64, 63), open_fault::<Credit>(1, 0)),
-        (0, 0)
+        (opened::<Credit>(64, 63), opened::<Credit>(1, 0)),
+        (Ok(()), Ok(()))
     );
     let mut d = Credit::open(2, 1)?;
     play(&rt, &mut d, &FAULTS);

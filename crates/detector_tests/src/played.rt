@@ -15,7 +15,9 @@ pub fn play<D: Detector>(rt: &impl Abort, d: &mut D, rows: &[Row]) {
     }
 }
 
-/// The number of the fault that an opening is refused with, or 0.
-pub fn open_fault<D: Detector + Drop>(nodes: u16, root: u16) -> u8 {
-    D::open(nodes, root).map_or_else(DetectorFault::number, |_| 0)
+/// What an opening answers, or the number of its refusal.
+pub fn opened<D: Detector + Drop>(nodes: u16, root: u16) -> Result<(), u8> {
+    D::open(nodes, root)
+        .map(|_| ())
+        .map_err(DetectorFault::number)
 }

@@ -1,5 +1,5 @@
 //! Exchanges played by hand from the rules of the tree.
-use crate::played::{Row, open_fault, play};
+use crate::played::{Row, opened, play};
 use detector::detector::Detector;
 use detector::told::Call::{Control, Idled, Received, Sent};
 use std::test::Fail;
@@ -71,15 +71,15 @@ const FAULTS: [Row; 9] = [
 fn faults(rt: HostRuntime) -> Result<(), Fail> {
     assert_eq!(rt;
         (
-            open_fault::<Tree>(0, 0),
-            open_fault::<Tree>(65, 0),
-            open_fault::<Tree>(64, 64)
+            opened::<Tree>(0, 0),
+            opened::<Tree>(65, 0),
+            opened::<Tree>(64, 64)
         ),
-        (20, 20, 20)
+        (Err(20), Err(20), Err(20))
     );
     assert_eq!(rt;
-        (open_fault::<Tree>(64, 63), open_fault::<Tree>(1, 0)),
-        (0, 0)
+        (opened::<Tree>(64, 63), opened::<Tree>(1, 0)),
+        (Ok(()), Ok(()))
     );
     let mut t = Tree::open(2, 0)?;
     play(&rt, &mut t, &FAULTS);

@@ -24,12 +24,7 @@ impl LinkFault {
     pub fn number(self) -> u8
         ensures { result ≡ link_fault_number self }
     {
-        match self {
-            LinkFault::TooMany => 7,
-            LinkFault::OutOfRange => 4,
-            LinkFault::SameEnds => 5,
-            LinkFault::PairRepeated => 6,
-        }
+        self as u8
     }
 }
 

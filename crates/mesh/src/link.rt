@@ -18,13 +18,13 @@ pub struct Link {
 #[derive(Clone, Copy, Debug, PartialEq, Eq, Hash)]
 pub enum LinkFault {
     /// The mesh has 512 links already.
-    TooMany,
+    TooMany = 7,
     /// An end is no node, or the width is 0.
-    OutOfRange,
+    OutOfRange = 4,
     /// The link leads to the node that it comes from.
-    SameEnds,
+    SameEnds = 5,
     /// A link with these ends is there already.
-    PairRepeated,
+    PairRepeated = 6,
 }
 
 /// Why parts make no mesh.

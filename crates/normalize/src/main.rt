@@ -3,7 +3,7 @@
 
 use session::reader::MAX_BYTES;
 use session::session::Room;
-use standard::report::{report, report_length};
+use standard::report::printed;
 use std::io::{Read, Write};
 
 // One byte more than a session file may have is enough to know that a file is too long.
@@ -15,9 +15,7 @@ fn main(rt: HostRuntime) -> anyhow::Result<()> {
     let mut bytes = Vec::new(heap);
     rt.stdin().take(LIMIT).read_to_end(&mut bytes)?;
     let answer = room.read(&bytes);
-    let mut text = vec![in heap; 0u8; report_length(&answer)]?;
-    // The text fits: its length was asked for.
-    let _ = report(&answer, &mut text);
+    let text = printed(heap, &answer)?;
     rt.stdout().write_all(&text)?;
     Ok(())
 }

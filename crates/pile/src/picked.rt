@@ -4,6 +4,7 @@ ghost use Rattle.pile.specs.Places.{chosen, chosen_there};
 use crate::pile::{Pile, Rule};
 
 /// The rule of the picked channel: the item that the pick chooses.
+#[derive(Clone, Copy, Debug, PartialEq, Eq, Hash)]
 pub struct Chosen;
 
 impl Rule for Chosen {

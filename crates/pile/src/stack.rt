@@ -4,6 +4,7 @@ ghost use Rattle.pile.specs.Places.{newest, newest_there};
 use crate::pile::{Pile, Rule};
 
 /// The rule of the stack: the newest item.
+#[derive(Clone, Copy, Debug, PartialEq, Eq, Hash)]
 pub struct Newest;
 
 impl Rule for Newest {

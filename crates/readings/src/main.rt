@@ -7,7 +7,7 @@
 
 use anyhow::anyhow;
 use session::session::Room;
-use standard::report::{report, report_length};
+use standard::report::printed;
 use std::alloc::{AllocError, Global};
 use std::fs;
 use std::io::Write;
@@ -18,13 +18,13 @@ const WHOLE: usize = 400;
 // The byte that a letter after a backslash stands for.
 fn escaped(letter: u8) -> u8 {
     match letter {
-        b'n' => 10,
-        b'r' => 13,
-        b't' => 9,
+        b'n' => b'\n',
+        b'r' => b'\r',
+        b't' => b'\t',
         b'0' => 0,
         b'd' => 127,
         b'h' => 200,
-        b'e' => 32,
+        b'e' => b' ',
         _ => letter,
     }
 }
@@ -52,10 +52,8 @@ fn sum_of(text: &[u8]) -> u32 {
 // Prints what `normalize` prints of a file.
 fn show(out: &mut impl Write, heap: Global, file: &[u8]) -> anyhow::Result<()> {
     let answer = Room::reserve(heap)?.read(file);
-    let length = report_length(&answer);
-    let mut text = vec![in heap; 0u8; length]?;
-    // The text fits: its length was asked for.
-    let _ = report(&answer, &mut text);
+    let text = printed(heap, &answer)?;
+    let length = text.len();
     if length > WHOLE {
         let sum = sum_of(&text);
         writeln!(out, "bytes {length} sum {sum}")?;

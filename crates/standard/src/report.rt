@@ -1,5 +1,5 @@
 //! What is printed of a session file that was read: the session in the standard order, or its fault.
-ghost use Rattle.std.specs.Prelude.{◌≡◌, length};
+ghost use Rattle.std.specs.Prelude.{◌≡◌, length, IfOk};
 ghost use Rattle.format.specs.Content.{standard};
 ghost use Rattle.session.specs.Seen.{content, judgement};
 ghost use Rattle.format.specs.Verdict.{Judged, accepted};
@@ -7,6 +7,7 @@ ghost use Rattle.standard.specs.Report.{Written, report_text};
 
 use crate::put::{length_of, write_whole};
 use session::session::Session;
+use std::alloc::{AllocError, Global};
 use vocab::faults::ReadFault;
 
 /// The length of a session's text.
@@ -40,4 +41,14 @@ pub fn report(answer: &Result<Session, ReadFault>, out: &mut [u8]) -> Option<usi
     ensures { Written (report_text (judgement answer.now)) out.old out.new result }
 {
     write_whole(answer, out)
+}
+
+/// What is printed of an answer of the reader, in memory of its own.
+pub fn printed(heap: Global, answer: &Result<Session, ReadFault>) -> Result<Vec<u8>, AllocError>
+    ensures { IfOk result (λ text. text.items ≡ report_text (judgement answer.now)) }
+{
+    let mut text = vec![in heap; 0u8; report_length(answer)]?;
+    // The text fits: its length was asked for.
+    let _ = report(answer, &mut text);
+    Ok(text)
 }
