@@ -5,10 +5,10 @@ use detector::told::{Call, make};
 use std::process::Abort;
 
 /// A call and what it answers: a mark or an item, nothing, or the number of the fault.
-pub type Row = (Call, Result<Option<u16>, u8>);
+pub(crate) type Row = (Call, Result<Option<u16>, u8>);
 
 /// Makes the calls, and checks each answer.
-pub fn play<D: Detector>(rt: &impl Abort, d: &mut D, rows: &[Row]) {
+pub(crate) fn play<D: Detector>(rt: &impl Abort, d: &mut D, rows: &[Row]) {
     for (call, expected) in rows {
         let answer = make(d, *call).map_err(DetectorFault::number);
         assert_eq!(rt; answer, *expected);
@@ -16,7 +16,7 @@ pub fn play<D: Detector>(rt: &impl Abort, d: &mut D, rows: &[Row]) {
 }
 
 /// What an opening answers, or the number of its refusal.
-pub fn opened<D: Detector + Drop>(nodes: u16, root: u16) -> Result<(), u8> {
+pub(crate) fn opened<D: Detector + Drop>(nodes: u16, root: u16) -> Result<(), u8> {
     D::open(nodes, root)
         .map(|_| ())
         .map_err(DetectorFault::number)
