@@ -53,9 +53,6 @@ pub record Sofar (takes : ℕ → List ℕ → Type 0) (n : ℕ) (o : List ℕ) 
   pub took : (j : ℕ) → j < i → takes (get_or o j 0) (get_or fs j [])
   pub fit : (j : ℕ) → j < i → fits (get_or o j 0)
 
-pub start : (takes : ℕ → List ℕ → Type 0) (n : ℕ) (o : List ℕ) (fs : List (List ℕ)) (values : List (List ℕ)) (fits : ℕ → Type 0) → length values ≡ n → Sofar takes n o fs 0 values fits
-start takes n o fs values fits e = record { long = e; put = λ j l. absurd (omega arith); took = λ j l. absurd (omega arith); fit = λ j l. absurd (omega arith) }
-
 module _ (takes : ℕ → List ℕ → Type 0) (n : ℕ) (o : List ℕ) (q : Order n o) (line : List ℕ) (fs : List (List ℕ)) (w : Fields line fs) (many : length fs ≡ length o) (i : ℕ) (values : List (List ℕ)) (fits : ℕ → Type 0) (s : Sofar takes n o fs i values fits) where
   -- One field more: its column is none of those before, which stay as they were.
   pub one_more : i < length o → (t : List ℕ) → t ≡ get_or fs i [] → takes (get_or o i 0) t → (values' : List (List ℕ)) (fits' : ℕ → Type 0) → PutAt (get_or o i 0) t values values' fits fits' → Sofar takes n o fs (i + 1) values' fits'

@@ -1,11 +1,11 @@
 -- Orders of columns.
-use Rattle.std.proofs.Common.{◌≡◌, ℕ, suc, ◌+◌, ◌<◌, ◌≤◌, ◌⊎◌, List, [], ◌∷◌, ◌++◌, length, get_or, take, Contains, sym, refl, ap, ◌∙◌, subst, inl, inr, ⊎_elim, arith}
+use Rattle.std.proofs.Common.{◌≡◌, ℕ, suc, ◌+◌, ◌<◌, ◌⊎◌, List, [], ◌∷◌, ◌++◌, length, get_or, take, Contains, sym, ap, ◌∙◌, subst, inl, inr, ⊎_elim, arith}
 use mathlib.Core.List.Memᴰ
 use mathlib.Core.List.{Memᴰ}
 use native.Mathlib.Decide.{ℕ_discrete}
 use Rattle.std.specs.List.{AllByRecursion}
 use Rattle.std.proofs.lemmas.List.Elements.{All-from_recursion, Contains-get_or}
-use Rattle.std.proofs.lemmas.List.{length_push, map_push, get_or-map, get_or_default, length-map, take_more, get_or_push, get_or_append_left, take_all, length-take-le, get_or-take}
+use Rattle.std.proofs.lemmas.List.{length_push, map_push, get_or-map, get_or_default, length-map, take_more, get_or_push, get_or_append_left, length-take-le, get_or-take}
 use Rattle.std.proofs.lemmas.Bool.{cases_lt}
 use Rattle.text.specs.Lines.{Field, Cut, spaced}
 use Rattle.text.proofs.Recursion.{pushed}
@@ -62,9 +62,6 @@ pub record Sofar (ws fs : List (List ℕ)) (i : ℕ) (o : List ℕ) : Type 0 whe
   pub below : AllByRecursion (λ k. k < length ws) o
   pub once : Once o
 
-pub start : (ws fs : List (List ℕ)) → Sofar ws fs 0 []
-start ws fs = record { is = refl; below = tt; once = λ i j l m e. omega arith }
-
 -- no order of the words ws is fs
 abbrev pub NoOrder : List (List ℕ) → List (List ℕ) → Type 0
 NoOrder ws fs = (o : List ℕ) → Order (length ws) o → fs ≡ arranged o ws → ⊥
@@ -111,11 +108,6 @@ module _ (ws fs : List (List ℕ)) (i : ℕ) (o : List ℕ) (apart : Apart ws) (
           (λ last. let w : length o ≡ b = omega arith in new (subst (Contains o) (sym first ∙ e ∙ get_or_push o k 0 b w) (Contains-get_or o a 0 (omega arith))))
           (cases_lt b (length o));
     }
-
-pub done : (ws fs : List (List ℕ)) (i : ℕ) (o : List ℕ) → length fs ≡ length ws → length fs ≤ i → Sofar ws fs i o → Order (length ws) o × (fs ≡ arranged o ws)
-done ws fs i o long past s =
-    let all = s.is ∙ take_all i fs past in
-    (record { long = sym (length-map o (λ k. get_or ws k [])) ∙ ap length all ∙ long; below = s.below; once = s.once }, sym all)
 
 -- fields in an order of columns are fields
 pub arranged_fields : (o : List ℕ) (xs : List (List ℕ)) → AllByRecursion (λ k. k < length xs) o → AllByRecursion Field xs → AllByRecursion Field (arranged o xs)

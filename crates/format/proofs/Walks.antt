@@ -18,9 +18,9 @@ use Rattle.vocab.specs.declared.faults.LineFault.TheVariants.{Layout}
 use Rattle.vocab.specs.declared.faults.ReadFault.{ReadFault}
 use Rattle.vocab.specs.declared.faults.ReadFault.TheVariants.{Line, Missing}
 use Rattle.format.specs.Columns.{Order, arranged, row}
-use Rattle.format.specs.Tables.{setting_values, link_values, step_values}
+use Rattle.format.specs.Tables.{link_values, step_values}
 use Rattle.vocab.specs.Words.{names}
-use Rattle.format.specs.Content.{SettingKept, setting_text, links_text, steps_text}
+use Rattle.format.specs.Content.{setting_text, links_text, steps_text}
 use Rattle.format.specs.Stages.{NextLine}
 use Rattle.format.specs.Verdict.{Place, at_setting_names, at_setting, at_link_names, at_links, at_steps, UpTo, Refuses, MayEnd, line_number, line_checks, digit_first, names_checks, link_line_checks, LinkLine}
 
@@ -81,13 +81,6 @@ module _ (bytes rest line after : List ℕ) (is : rest ≡ line ++ 10 ∷ after)
   pub to_setting : (o : List ℕ) → UpTo bytes at_setting_names rest → Order 5 o → line ≡ spaced (arranged o (names Settings)) → UpTo bytes (at_setting o) after
   to_setting o u q e = record { short = u.short; sound = q; is = grown bytes [] rest line _ after u.is is e }
 
-  pub to_link_names : (o : List ℕ) (h : Setting) → UpTo bytes (at_setting o) rest → SettingKept h → line ≡ spaced (arranged o (setting_values h)) → UpTo bytes (at_link_names o h) after
-  to_link_names o h u k e = record {
-    short = u.short;
-    sound = (u.sound, k);
-    is = grown bytes (row o (names Settings)) rest line _ after u.is is e ∙ ap (λ t. (row o (names Settings) ++ t) ++ after) (sym (append-nil (row o (setting_values h))));
-  }
-
   pub to_links : (o : List ℕ) (h : Setting) (p : List ℕ) → UpTo bytes (at_link_names o h) rest → Order 4 p → line ≡ spaced (arranged p (names Links)) → UpTo bytes (at_links o h p []) after
   to_links o h p u q e = record {
     short = u.short;
@@ -139,9 +132,6 @@ link_line_at o h p ls line e = ap (λ b. cond b (link_line_checks p h.nodes ls l
 
 pub names_line_at : (o : List ℕ) (h : Setting) (p : List ℕ) (ls : List Link) (line : List ℕ) → digit_first line ≡ false → names_checks (names Steps) line ≡ line_checks (at_links o h p ls) line
 names_line_at o h p ls line e = ap (λ b. cond b (link_line_checks p h.nodes ls line) (names_checks (names Steps) line)) (sym e)
-
-pub shorter : (rest line after : List ℕ) → rest ≡ line ++ 10 ∷ after → length after < length rest
-shorter rest line after e = omega (arith, ap length e, length-append line (10 ∷ after))
 
 -- A line of two fields has four bytes at the least, its line feed included.
 pub four_bytes : (rest line after : List ℕ) (fs : List (List ℕ)) → rest ≡ line ++ 10 ∷ after → Fields line fs → length fs ≡ 2 → length after + 4 ≤ length rest

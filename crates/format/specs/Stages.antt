@@ -2,15 +2,19 @@
 -- left of the file, so it speaks of every file that comes to its place with that rest.
 use Rattle.std.specs.Prelude.{◌≡◌, ℕ, ◌+◌, ◌<◌, false, ◌⊎◌, List, [], ◌∷◌, ◌++◌, length, Ok, Err, Result}
 use Rattle.std.specs.Borrow.{Bor}
+use Rattle.fault.specs.Checks.{Fails}
 use Rattle.text.specs.Lines.{Fields}
 use Rattle.text.specs.declared.line.Line.{Line as FieldLine}
 use Rattle.mesh.specs.declared.link.Link.{Link}
+use Rattle.vocab.specs.declared.kinds.Table.{Table}
 use Rattle.vocab.specs.declared.kinds.Setting.{Setting}
 use Rattle.vocab.specs.declared.kinds.Step.{Step}
+use Rattle.vocab.specs.declared.faults.LineFault.{LineFault}
 use Rattle.vocab.specs.declared.faults.LineFault.TheVariants.{Layout}
 use Rattle.vocab.specs.declared.faults.ReadFault.{ReadFault}
 use Rattle.vocab.specs.declared.faults.ReadFault.TheVariants.{Line, Missing}
-use Rattle.format.specs.Verdict.{UpTo, Refuses, digit_first, at_link_names, at_links, at_steps}
+use Rattle.vocab.specs.Words.{names}
+use Rattle.format.specs.Verdict.{Place, UpTo, Refuses, MayEnd, line_number, line_checks, names_checks, digit_first, at_links, at_steps}
 
 -- the next line, of number k, and what follows it
 abbrev pub NextLine : ℕ → List ℕ → Result (FieldLine × Bor (List ℕ)) ReadFault → Type 0
@@ -19,12 +23,13 @@ NextLine k rest (Err f) =
     ((rest ≡ []) × (f ≡ Missing k))
     ⊎ ((0 < length rest) × ((line after : List ℕ) (fs : List (List ℕ)) → rest ≡ line ++ 10 ∷ after → Fields line fs → ⊥) × (f ≡ Line k Layout))
 
--- the names of the links, in the order p, and what follows them
-abbrev pub LinkNamesRead : List ℕ → List ℕ → List ℕ → Type 0
-LinkNamesRead rest p after = (bytes o : List ℕ) (h : Setting) → UpTo bytes (at_link_names o h) rest → UpTo bytes (at_links o h p []) after
+-- the line at a place is the line of a table's names, and its number is k
+abbrev pub NamesAt : ℕ → Table → Place → Type 0
+NamesAt k t p = (k ≡ line_number p) × (MayEnd p → ⊥) × ((line : List ℕ) (e : LineFault) → Fails (names_checks (names t) line) e → Fails (line_checks p line) e)
 
-abbrev pub LinkNamesRefused : List ℕ → ReadFault → Type 0
-LinkNamesRefused rest f = (bytes o : List ℕ) (h : Setting) → UpTo bytes (at_link_names o h) rest → Refuses bytes f
+-- a table's names are refused, at any place where they come with the number k
+abbrev pub NamesRefused : ℕ → Table → List ℕ → ReadFault → Type 0
+NamesRefused k t rest f = (bytes : List ℕ) (p : Place) → NamesAt k t p → UpTo bytes p rest → Refuses bytes f
 
 -- the links, in the order p, and the line that follows them, which is no link line
 pub record LinksRead (p : List ℕ) (nodes : ℕ) (rest : List ℕ) (ls : List Link) (line after : List ℕ) : Type 0 where

@@ -1,6 +1,6 @@
 -- A mesh with one link more.
-use Rattle.std.proofs.Common.{◌≡◌, ℕ, ◌+◌, ◌*◌, ◌<◌, ◌≤◌, Bool, true, false, ◌⊎◌, List, [], ◌∷◌, ◌++◌, length, get_or, take, drop, set, replicate, sym, refl, ap, ◌∙◌, subst, inl, inr, ⊎_elim, arith}
-use Rattle.std.proofs.lemmas.List.{length_push, get_or_push, get_or_append_left, get_or_default, take_more, drop_more, drop_all, length-take-le, get_or-set_same, get_or-set_other, get_or-replicate}
+use Rattle.std.proofs.Common.{◌≡◌, ℕ, ◌+◌, ◌*◌, ◌<◌, Bool, true, false, ◌⊎◌, List, [], ◌∷◌, ◌++◌, length, get_or, take, drop, set, replicate, sym, refl, ap, ◌∙◌, subst, inl, inr, ⊎_elim, arith}
+use Rattle.std.proofs.lemmas.List.{length_push, get_or_push, get_or_append_left, get_or_default, take_more, drop_more, length-take-le, get_or-set_same, get_or-set_other, get_or-replicate}
 use Rattle.std.proofs.lemmas.Bool.{cases_lt, cases_eq, false≢true}
 use Rattle.fault.specs.Checks.{Check, Passes, Fails}
 use Rattle.fault.proofs.Ordered.{passes_both, fails_first, fails_later}
@@ -104,13 +104,7 @@ pub record Sofar (nodes : ℕ) (ls : List Link) (k : ℕ) : Type 0 where
   pub passes : Passes (links_checks nodes (take k ls) (drop k ls)) → Passes (links_checks nodes [] ls)
   pub fails : (e : MeshFault) → Fails (links_checks nodes (take k ls) (drop k ls)) e → Fails (links_checks nodes [] ls) e
 
-pub start : (nodes : ℕ) (ls : List Link) → Sofar nodes ls 0
-start nodes ls = record { passes = λ p. p; fails = λ e f. f }
-
 module _ (nodes : ℕ) (ls : List Link) (k : ℕ) (s : Sofar nodes ls k) where
-  pub done : length ls ≤ k → Passes (links_checks nodes [] ls)
-  done h = s.passes (subst (λ t. Passes (links_checks nodes (take k ls) t)) (sym (drop_all k ls h)) tt)
-
   module _ (l : Link) (h : k < length ls) (is : get_or ls k l ≡ l) where
     split : drop k ls ≡ l ∷ drop (k + 1) ls
     split = drop_more ls k l h ∙ ap (λ x. x ∷ drop (k + 1) ls) is

@@ -37,5 +37,8 @@ pub fn next_line(number: usize, rest: &[u8]) -> Result<(Line<'_>, &[u8]), ReadFa
 pub fn is_link_line(line: &[u8]) -> bool
     ensures { result ≡ digit_first line.now }
 {
-    line.first().is_some_and(|first| first.is_ascii_digit())
+    match line {
+        [first, _rest @ ..] => first.is_ascii_digit(),
+        [] => false,
+    }
 }

@@ -1,6 +1,6 @@
 //! Lines whose columns stand in an order of the writer's own.
-ghost use Rattle.std.specs.Prelude.{◌≡◌, ℕ, ◌<◌, List, length, MatchResult};
-ghost use Rattle.fault.specs.Checks.{Fails};
+ghost use Rattle.std.specs.Prelude.{◌≡◌, ℕ, ◌<◌, List, ◌∷◌, length, MatchResult};
+ghost use Rattle.fault.specs.Checks.{Fails, check};
 ghost use Rattle.std.specs.List.{AllByRecursion};
 ghost use Rattle.text.specs.Lines.{HasFields, Field, spaced};
 ghost use Rattle.vocab.specs.declared.faults.LineFault.TheVariants.{Layout, WrongNames};
@@ -79,4 +79,18 @@ pub fn fill<const N: usize, R: Row>(
         rest = after;
     }
     Ok(())
+}
+
+/// The row with the values of a line, which must have as many fields as the table has columns.
+pub fn filled<const N: usize, R: Row + Copy>(
+    mut row: R,
+    columns: &Columns<N>,
+    line: Line<'_>,
+) -> Result<R, LineFault>
+    requires { length (R.values row) ≡ N }
+    ensures { MatchResult result (λ r. (R.base r ≡ R.base row) × HasFields line.entry.text.now N × Filled (R.takes (R.base row)) columns.now.order line.entry.text.now (R.values r) (R.fits r)) (Fails (check Layout (HasFields line.entry.text.now N) ∷ field_checks (R.takes (R.base row)) line.entry.text.now 0 columns.now.order)) }
+{
+    has_fields(line, N)?;
+    fill(&mut row, columns, line)?;
+    Ok(row)
 }

@@ -9,7 +9,7 @@ ghost use Rattle.format.specs.Tables.{setting_values, step_values};
 ghost use Rattle.format.specs.Content.{SettingKept};
 ghost use Rattle.format.specs.Verdict.{setting_checks, link_line_checks, step_checks, LinkLine};
 
-use crate::columns::{fill, has_fields};
+use crate::columns::{fill, filled, has_fields};
 use crate::order::Columns;
 use format::rows::LinkRow;
 use mesh::link::{Link, LinkFault};
@@ -26,15 +26,14 @@ const ROOT: usize = 1;
 pub fn setting_line(columns: &Columns<5>, line: Line<'_>) -> Result<Setting, LineFault>
     ensures { MatchResult result (λ h. SettingKept h × (line.entry.text.now ≡ spaced (arranged columns.now.order (setting_values h)))) (Fails (setting_checks columns.now.order line.entry.text.now)) }
 {
-    has_fields(line, 5)?;
-    let mut setting = Setting {
+    let unset = Setting {
         nodes: 1,
         root: 0,
         kind: Kind::Cost,
         detector: Detector::Tree,
         channel: Channel::Queue,
     };
-    fill(&mut setting, columns, line)?;
+    let setting = filled(unset, columns, line)?;
     if setting.root >= setting.nodes {
         return Err(LineFault::BadField(place(&columns.order, ROOT) + 1));
     }
@@ -69,11 +68,9 @@ pub fn link_line(mesh: &mut Mesh, columns: &Columns<4>, line: Line<'_>) -> Resul
 pub fn step_line(columns: &Columns<2>, line: Line<'_>) -> Result<Step, LineFault>
     ensures { MatchResult result (λ s. (s.pick ≤ 65535) × (line.entry.text.now ≡ spaced (arranged columns.now.order (step_values s)))) (Fails (step_checks columns.now.order line.entry.text.now)) }
 {
-    has_fields(line, 2)?;
-    let mut step = Step {
+    let unset = Step {
         action: Action::Deliver,
         pick: 0,
     };
-    fill(&mut step, columns, line)?;
-    Ok(step)
+    filled(unset, columns, line)
 }

@@ -1,8 +1,11 @@
 //! The reader: a session file, line by line.
-ghost use Rattle.std.specs.Prelude.{◌≡◌, ℕ, ◌≤◌, List, [], length, IfOk, vec_len, vec_capacity, MatchResult, OnOk};
-ghost use Rattle.format.specs.Stages.{LinkNamesRead, LinkNamesRefused, LinksRead, LinksRefused, StepsRead, StepsRefused};
+ghost use Rattle.std.specs.Prelude.{◌≡◌, ℕ, ◌≤◌, List, [], ◌∷◌, ◌++◌, length, IfOk, vec_len, vec_capacity, MatchResult, OnOk};
+ghost use Rattle.format.specs.Columns.{arranged};
+ghost use Rattle.format.specs.Stages.{NamesRefused, LinksRead, LinksRefused, StepsRead, StepsRefused};
 ghost use Rattle.format.specs.Verdict.{UpTo, Refuses, at_link_names, Judged};
 ghost use Rattle.format.specs.Content.{standard};
+ghost use Rattle.text.specs.Lines.{spaced};
+ghost use Rattle.vocab.specs.Words.{names};
 ghost use Rattle.session.specs.Seen.{content, judgement, Answers};
 
 use crate::columns::names_line;
@@ -19,25 +22,29 @@ use vocab::kinds::{Setting, Step, Table};
 /// The most bytes a session file may have.
 pub const MAX_BYTES: usize = 65536;
 
+// The order of a table's columns, from the line of its names, and what follows that line.
+fn table_names<const N: usize>(
+    number: usize,
+    table: Table,
+    rest: &[u8],
+) -> Result<(Columns<N>, &[u8]), ReadFault>
+    requires { length (names table) ≡ N }
+    ensures { MatchResult result (λ x. rest.now ≡ spaced (arranged x.0.order (names table)) ++ 10 ∷ x.1.now) (NamesRefused number table rest.now) }
+{
+    let (line, after) = next_line(number, rest)?;
+    let columns = at_line(number, names_line(table, line))?;
+    Ok((columns, after))
+}
+
 // The settings, and what follows their table.
 fn setting_table(bytes: &[u8]) -> Result<(Setting, &[u8]), ReadFault>
     requires { length bytes.now ≤ 65536 }
     ensures { MatchResult result (λ x. ((o : List ℕ) × UpTo bytes.now (at_link_names o x.0) x.1.now)) (Refuses bytes.now) }
 {
-    let (names, values) = next_line(1, bytes)?;
-    let columns = at_line(1, names_line(Table::Settings, names))?;
+    let (columns, values) = table_names(1, Table::Settings, bytes)?;
     let (line, rest) = next_line(2, values)?;
     let setting = at_line(2, setting_line(&columns, line))?;
     Ok((setting, rest))
-}
-
-// The order of the columns of the links, and what follows the line of their names.
-fn link_names(rest: &[u8]) -> Result<(Columns<4>, &[u8]), ReadFault>
-    ensures { MatchResult result (λ x. LinkNamesRead rest.now x.0.order x.1.now) (LinkNamesRefused rest.now) }
-{
-    let (line, after) = next_line(3, rest)?;
-    let columns = at_line(3, names_line(Table::Links, line))?;
-    Ok((columns, after))
 }
 
 // Reads the link lines into the mesh, and answers the line after them and what follows it.
@@ -111,7 +118,7 @@ impl Room {
         }
         let Room { links, mut steps } = self;
         let (setting, names_text) = setting_table(bytes)?;
-        let (columns, links_text) = link_names(names_text)?;
+        let (columns, links_text) = table_names(3, Table::Links, names_text)?;
         let mut mesh = Mesh::open(links, setting.nodes, setting.root).unwrap();
         let (names, steps_text) = link_table(&columns, &mut mesh, links_text)?;
         let number = 4 + mesh.links.len();

@@ -1,8 +1,8 @@
 -- A line and its fields.
-use Rattle.std.proofs.Common.{◌≡◌, ℕ, ◌+◌, ◌-◌, ◌<◌, ◌≤◌, ◌⊎◌, List, [], ◌∷◌, ◌++◌, length, get_or, take, drop, sym, refl, ap, ◌∙◌, subst, inl, inr, append_assoc, append-nil, add-zero, arith}
+use Rattle.std.proofs.Common.{◌≡◌, ℕ, ◌+◌, ◌-◌, ◌<◌, ◌≤◌, ◌⊎◌, List, [], ◌∷◌, ◌++◌, length, get_or, take, drop, sym, refl, ap, ◌∙◌, subst, inl, inr, append_assoc, add-zero, arith}
 use Rattle.std.specs.List.{AllByRecursion}
 use Rattle.text.proofs.Recursion.{pushed}
-use Rattle.std.proofs.lemmas.List.{length_push, length-append, take-append-drop, take_at, get_or-drop, length-drop, drop_more, take_rest, nil_from_length}
+use Rattle.std.proofs.lemmas.List.{length_push, length-append, take-append-drop, take_at, get_or-drop, length-drop, drop_more, take_rest}
 use Rattle.text.specs.Lines.{Mark, Field, Fields, Parted, spaced}
 use Rattle.text.specs.FieldsOnce.{same_cut, no_stop, no_space}
 
@@ -103,9 +103,6 @@ module _ (rest f after : List ℕ) (n : ℕ) (s : Span rest f after n) where
 
 pub headed : (after : List ℕ) (b : ℕ) → 0 < length after → get_or after 0 0 ≡ b → after ≡ b ∷ take (length after - 1) (drop 1 after)
 headed after b h e = drop_more after 0 0 h ∙ ap (λ c. c ∷ drop 1 after) e ∙ ap (λ t. b ∷ t) (sym (take_rest after 1))
-
-pub ended : (after : List ℕ) → length after ≡ 0 → (f : List ℕ) → f ++ after ≡ f
-ended after e f = ap (λ t. f ++ t) (nil_from_length after e) ∙ append-nil f
 
 -- What `first_field` parts off a line of fields is its first field, and the others are left.
 pub first_of : (f : List ℕ) (fs : List (List ℕ)) (front rest : List ℕ) → AllByRecursion Field (f ∷ fs) → Parted (spaced (f ∷ fs)) front rest → (front ≡ f) × (rest ≡ spaced fs)

@@ -1,17 +1,11 @@
-use Rattle.std.proofs.Common.{◌≡◌, ◌+◌, [], get_or, drop, sym, refl, ap, ◌∙◌, subst, arith}
+use Rattle.std.proofs.Common.{◌≡◌, ◌+◌, [], get_or, drop, sym, ap, ◌∙◌, subst, arith}
 use Rattle.std.proofs.lemmas.Result.{err_from_is_err_and}
 use Rattle.text.specs.Lines.{spaced}
-use Rattle.format.proofs.Fills.{next_field, start, one_more, refused, done}
+use Rattle.format.proofs.Fills.{next_field, one_more, refused, done}
 use Rattle.scan.proofs.Handed.{field_ok, field_err}
 use Rattle.session.proofs.columns.fill.Given as given
 use Rattle.session.proofs.columns.fill.Goals as goal
 use Rattle.session.proofs.columns.fill.Goals.{After-at_field}
-
-pub loop-i-init : goal.loop-i-init
-loop-i-init g c =
-    let m = g.R.Row in
-    let f = c.requires.cut in
-    (refl, (f.0, f.1, f.1.0.is, start (m.takes (m.base c.args.row.now)) g.row.N c.args.columns.now.order f.0 (m.values c.args.row.now) (m.fits c.args.row.now) c.requires.many))
 
 -- the fields, and what the loop cut off
 cut : (g : given.Over) (c : After-at_field g) → (c.first_field.result.0.now ≡ get_or c.loop-i.invariant.1.0 c.loop-i.i []) × (c.first_field.result.1.now ≡ spaced (drop (c.loop-i.i + 1) c.loop-i.invariant.1.0))

@@ -1,6 +1,6 @@
-use Rattle.std.proofs.Common.{◌≡◌, None, Some, Option, ok_or, Err, Result, ℕ, ◌+◌, ◌<◌, eqb, List, [], length, get_or, take, drop, sym, refl, ap, ◌∙◌, subst, arith}
+use Rattle.std.proofs.Common.{◌≡◌, None, Some, Option, ok_or, Err, Result, ℕ, ◌+◌, ◌<◌, eqb, List, [], length, get_or, drop, sym, refl, ◌∙◌, subst, arith}
 use Rattle.std.proofs.lemmas.List.Elements.{contains_decides, Contains-from_at, at_from_Contains}
-use Rattle.std.proofs.lemmas.List.{length-map, length-replicate, length-set, take_more_set, take_all}
+use Rattle.std.proofs.lemmas.List.{length-map, length-set, take_more_set}
 use Rattle.std.proofs.lemmas.Bool.{both_ways}
 use Rattle.std.proofs.lemmas.Bool.Decides.{Decides-eqb}
 use Rattle.std.proofs.lemmas.Result.{err_from_is_err_and}
@@ -11,13 +11,10 @@ use Rattle.vocab.specs.declared.faults.LineFault.TheVariants.{WrongNames}
 use Rattle.format.specs.Columns.{texts, Order, arranged}
 use Rattle.format.specs.Filling.{Found}
 use Rattle.format.proofs.Fills.{next_field}
-use Rattle.format.proofs.Orders.{Sofar, NoOrder, start, unknown, again, one_more, done, cut_of}
+use Rattle.format.proofs.Orders.{Sofar, NoOrder, unknown, again, one_more, cut_of}
 use Rattle.session.proofs.columns.order_of.Given as given
 use Rattle.session.proofs.columns.order_of.Goals as goal
 use Rattle.session.proofs.columns.order_of.Goals.{After-find, After-loop-i}
-
-pub loop-i-init : goal.loop-i-init
-loop-i-init g c = let f = c.requires.cut in (length-replicate g.row.N 0, (f.0, f.1, f.1.0.is, start (texts c.args.words.now) f.0))
 
 -- as many words as columns, and as fields
 many : (g : given.Over) (c : After-find g) → length (texts c.args.words.now) ≡ g.row.N
@@ -78,18 +75,3 @@ loop-i-preserved g c =
             (λ has. both_ways _ c.if-contains.false ((contains_decides eqb Decides-eqb _ _ _ c.contains.ensures.cases).1 (at_from_Contains _ _ has)))),
       ),
     )
-
--- the whole order
-ordered : (g : given.Over) (c : After-loop-i g) → Order g.row.N c.loop-i.order × (c.args.line.now ≡ spaced (arranged c.loop-i.order (texts c.args.words.now)))
-ordered g c =
-    let i = c.loop-i.invariant in
-    let n = length-map c.args.words.now (λ x. x.now) ∙ c.requires.many in
-    let all : take c.loop-i.i c.loop-i.order ≡ c.loop-i.order = take_all c.loop-i.i c.loop-i.order (omega (arith, i.0, c.loop-i-test.false)) in
-    let d = done (texts c.args.words.now) i.1.0 c.loop-i.i c.loop-i.order (i.1.1.1 ∙ sym n) (omega (arith, i.1.1.1, c.loop-i-test.false)) (subst (Sofar (texts c.args.words.now) i.1.0 c.loop-i.i) all i.1.3) in
-    (subst (λ m. Order m c.loop-i.order) n d.0, i.1.1.0.is ∙ ap spaced d.1)
-
-pub invariant_of-result : goal.invariant_of-result
-invariant_of-result g c = record { once = (ordered g c).0 }
-
-pub returns : goal.returns
-returns g c = (ordered g (goal.at.returns g c).After-loop-i).1

@@ -46,13 +46,3 @@ returns-in_err-join c =
       root = e.root;
       joins = rw (p.1, p.2) (link_fails c.args.columns.now.order c.args.mesh.now.nodes (vec_items c.args.mesh.now.links) c.args.line.text.now c.fill.new.row.link c.in_err-join.field-0.0 c.args.columns.now.once c.args.mesh.now.many c.in_ok-has_fields.ensures (room a) c.in_ok-fill.ensures.fills.passes (written b) e.links.0, e.links.1);
     }
-
-pub returns : goal.returns
-returns c =
-    let b = (goal.at.returns c).In_ok-fill in
-    let e = c.in_ok-join.ensures in
-    record {
-      nodes = e.nodes;
-      root = e.root;
-      joins = (c.fill.new.row.link, written b, e.links.0.0, e.links.0.1.1.0, e.links.0.1.1.1.0, e.links.1);
-    }

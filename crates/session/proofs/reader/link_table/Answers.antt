@@ -1,4 +1,4 @@
-use Rattle.std.proofs.Common.{◌≡◌, ◌+◌, ◌<◌, true, [], ◌∷◌, ◌++◌, length, vec_items, sym, refl, ap, ◌∙◌, subst, inl, arith}
+use Rattle.std.proofs.Common.{◌≡◌, ◌+◌, ◌<◌, true, [], ◌∷◌, ◌++◌, length, vec_items, sym, ap, ◌∙◌, subst, inl, arith}
 use Rattle.std.proofs.lemmas.Result.{err_from_is_err_and}
 use Rattle.fault.specs.Checks.{Fails}
 use Rattle.mesh.specs.declared.link.Link.{Link}
@@ -6,11 +6,8 @@ use Rattle.mesh.specs.Rules.{EndsDiffer, Joins}
 use Rattle.vocab.specs.declared.faults.ReadFault.TheVariants.{Line}
 use Rattle.format.specs.Verdict.{digit_first, UpTo, at_links, link_line_checks, LinkLine}
 use Rattle.scan.proofs.Handed.{line_ok, line_err}
-use Rattle.format.proofs.Walks.{refuse, refuse_next, more_links, link_line_at, shorter}
+use Rattle.format.proofs.Walks.{refuse, refuse_next, more_links, link_line_at}
 use Rattle.session.proofs.reader.link_table.Goals as goal
-
-pub loop-line-init : goal.loop-line-init
-loop-line-init c = (refl, refl, λ bytes o h n u. subst (λ ls. UpTo bytes (at_links o h c.args.columns.now.order ls) c.args.text.now) (sym c.requires) u)
 
 pub returns-in_err-line : goal.returns-in_err-line
 returns-in_err-line c =
@@ -41,9 +38,6 @@ returns-in_err-at_line c =
           (subst (λ x. Fails (link_line_checks c.args.columns.now.order x (vec_items m.links) line) l.0) (c.loop-line.invariant.0 ∙ sym e) l.1.0))
           (l.2 ∙ ap (λ x. Line x l.0) n));
     }
-
-pub loop-line-smaller : goal.loop-line-smaller
-loop-line-smaller c = shorter c.loop-line.rest.now c.in_ok-line.line.text.now c.in_ok-line.after.now c.in_ok-line.ensures
 
 pub loop-line-preserved : goal.loop-line-preserved
 loop-line-preserved c =

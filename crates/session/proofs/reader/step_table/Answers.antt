@@ -11,15 +11,8 @@ use Rattle.format.specs.Verdict.{UpTo, at_steps, step_checks}
 use Rattle.format.proofs.Known.{step_fields}
 use Rattle.format.proofs.Orders.{cut_of}
 use Rattle.scan.proofs.Handed.{line_ok, line_err}
-use Rattle.format.proofs.Walks.{refuse, refuse_next, more_steps, shorter, four_bytes}
+use Rattle.format.proofs.Walks.{refuse, refuse_next, more_steps, four_bytes}
 use Rattle.session.proofs.reader.step_table.Goals as goal
-
-pub loop-rest-init : goal.loop-rest-init
-loop-rest-init c = (
-  omega (arith, c.requires.none, c.requires.short),
-  c.requires.room,
-  λ bytes o h p ls u. subst (λ ss. UpTo bytes (at_steps o h p ls c.args.columns.now.order ss) c.args.text.now) (sym (nil_from_length (vec_items c.args.steps.now) (omega (arith, c.args.steps.now.ok.0, c.requires.none)))) u,
-)
 
 pub returns-in_err-line : goal.returns-in_err-line
 returns-in_err-line c =
@@ -43,9 +36,6 @@ returns-in_err-step c =
           (c.loop-rest.invariant.2 bytes o h p ls u) w c.in_ok-line.line.cut.0 c.in_ok-line.line.cut.1.0 l.1
           (l.2 ∙ ap (λ x. Line x l.0) (let z : c.args.first + c.len.result ≡ 5 + length ls + length (vec_items c.loop-rest.steps) = omega (arith, n, c.len.ensures, c.loop-rest.steps.ok.0) in z)));
     }
-
-pub loop-rest-smaller : goal.loop-rest-smaller
-loop-rest-smaller c = shorter c.loop-rest.rest.now c.in_ok-line.line.text.now c.in_ok-line.after.now c.in_ok-line.ensures
 
 pub returns : goal.returns
 returns c = record {

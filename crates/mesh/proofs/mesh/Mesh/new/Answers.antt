@@ -1,14 +1,13 @@
 use Rattle.std.proofs.Common.{◌≡◌, ℕ, Ok, Err, Result, MatchResult, rules, tests, [], ◌∷◌, ◌++◌, get_or, take, sym, ap, ◌∙◌, subst, inr}
-use Rattle.std.proofs.lemmas.List.{take_more, take_all, get_or_default}
+use Rattle.std.proofs.lemmas.List.{take_more, get_or_default}
 use Rattle.std.proofs.lemmas.Result.{err_from_is_err_and}
 use Rattle.fault.specs.Checks.{Passes, Fails}
-use Rattle.fault.proofs.Ordered.{passes_both}
 use Rattle.mesh.specs.declared.link.Link.{Link}
 use Rattle.mesh.specs.declared.link.LinkFault.{LinkFault}
 use Rattle.mesh.specs.declared.link.MeshFault.{MeshFault}
 use Rattle.mesh.specs.declared.link.MeshFault.TheVariants.{BadLink}
-use Rattle.mesh.specs.Checks.{link_checks, root_checks, links_checks}
-use Rattle.mesh.proofs.Grown.{start, one_more, refused, done}
+use Rattle.mesh.specs.Checks.{link_checks}
+use Rattle.mesh.proofs.Grown.{one_more, refused}
 use Rattle.mesh.proofs.mesh.Mesh.new.Goals as goal
 
 abbrev numbered : {T : Type 0} → ℕ → Result T LinkFault → Result T MeshFault
@@ -17,9 +16,6 @@ numbered k (Err e) = Err (BadLink k e)
 
 abbrev no_link : Link
 no_link = record { from = 0; to = 0; cost = 0; width = 0 }
-
-pub loop-k-init : goal.loop-k-init
-loop-k-init c = let h = c.in_ok-mesh.ensures in (h.0, h.1, h.2, h.3, start c.args.nodes c.args.links.now)
 
 -- what a link that joined tells, and one that was refused
 at_ok : (P : Type 0) (Q : LinkFault → Type 0) (k : ℕ) (r : Result (Unit {0}) LinkFault) (u : Unit {0}) → Ok u ≡ numbered k r → MatchResult r (λ _. P) Q → P
@@ -63,9 +59,3 @@ loop-k-preserved c =
           (subst (λ n. Passes (link_checks n (take c.loop-k.k-counter c.args.links.now) l)) i.1
           (subst (λ t. Passes (link_checks c.loop-k.mesh.nodes t l)) i.3 m.0)),
     )
-
-pub returns : goal.returns
-returns c =
-    let i = c.loop-k.invariant in
-    let all = done c.args.nodes c.args.links.now c.loop-k.k-counter i.4 c.loop-k-test.false in
-    (passes_both (root_checks c.args.nodes c.args.root) (links_checks c.args.nodes [] c.args.links.now) i.0 all, i.1, i.2, i.3 ∙ take_all c.loop-k.k-counter c.args.links.now c.loop-k-test.false)

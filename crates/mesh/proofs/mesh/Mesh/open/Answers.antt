@@ -1,10 +1,7 @@
-use Rattle.std.proofs.Common.{ℕ, ◌<◌, false, length, vec_items, refl, ap, arith}
+use Rattle.std.proofs.Common.{ℕ, ◌<◌, false, length, vec_items, ap, arith}
 use Rattle.mesh.proofs.Grown.{free_none, used_none}
-use Rattle.std.proofs.lemmas.List.{nil_from_length, length-replicate}
+use Rattle.std.proofs.lemmas.List.{length-replicate}
 use Rattle.mesh.proofs.mesh.Mesh.open.Goals as goal
-
-pub returns : goal.returns
-returns c = (((omega arith, omega arith), (omega arith, tt)), refl, refl, nil_from_length _ (omega (arith, c.args.room.links.ok.0, c.args.room.empty)))
 
 pub invariant_of-result : goal.invariant_of-result
 invariant_of-result c =

@@ -12,11 +12,11 @@ use Rattle.vocab.specs.declared.faults.ReadFault.TheVariants.{Line}
 use Rattle.format.specs.Columns.{arranged}
 use Rattle.vocab.specs.Words.{names}
 use Rattle.format.specs.Content.{standard}
-use Rattle.format.specs.Verdict.{UpTo, Accepts, at_links, at_steps, before, names_checks, accepted, refused}
+use Rattle.format.specs.Verdict.{UpTo, Accepts, at_link_names, at_links, at_steps, before, names_checks, accepted, refused}
 use Rattle.scan.proofs.Handed.{line_ok, line_err}
 use Rattle.format.proofs.Lengths.{standard_length}
 use Rattle.format.proofs.Single.{judged}
-use Rattle.format.proofs.Walks.{refuse, to_steps, names_line_at}
+use Rattle.format.proofs.Walks.{refuse, to_links, to_steps, names_line_at}
 use Rattle.session.proofs.session.Room.read.Goals as goal
 use Rattle.session.proofs.session.Room.read.Goals.{In_ok-setting, In_ok-columns, After-unwrap-mesh, In_ok-names, In_ok-step_columns, In_ok-step_table}
 
@@ -29,7 +29,7 @@ pub returns-in_err-columns : goal.returns-in_err-columns
 returns-in_err-columns c =
     let p = err_from_is_err_and c.from_residual-in_err-columns.result c.from_residual-in_err-columns.ensures.1 in
     let u = c.in_ok-setting.ensures in
-    record { judged = rw (p.1, p.2) (judged c.args.bytes.now (refused c.in_err-columns.field-0.0) (c.in_err-columns.ensures c.args.bytes.now u.0 c.in_ok-setting.setting u.1)); sized = rw p.1 tt }
+    record { judged = rw (p.1, p.2) (judged c.args.bytes.now (refused c.in_err-columns.field-0.0) (c.in_err-columns.ensures c.args.bytes.now (at_link_names u.0 c.in_ok-setting.setting) (refl, (λ e. e), λ line e f. f) u.1)); sized = rw p.1 tt }
 
 -- the mesh that was opened
 opened_as : (nodes root : ℕ) (r : Result Mesh MeshFault) (m : Mesh) → r ≡ Ok m →
@@ -37,14 +37,12 @@ opened_as : (nodes root : ℕ) (r : Result Mesh MeshFault) (m : Mesh) → r ≡ 
     (m.nodes ≡ nodes) × (m.root ≡ root) × (m.links.items ≡ [])
 opened_as nodes root r m is h = let k = MatchResult-at_ok _ _ m is h in (k.1, k.2, k.3)
 
-pub link_table-requires : goal.link_table-requires
-link_table-requires c = (opened_as c.in_ok-setting.setting.nodes c.in_ok-setting.setting.root c.open.result c.unwrap-mesh.result c.unwrap-mesh.ensures c.open.ensures).2
-
 -- the file is in order up to the first link
 up_links : (c : After-unwrap-mesh) → UpTo c.args.bytes.now (at_links c.in_ok-setting.ensures.0 c.in_ok-setting.setting c.in_ok-columns.columns.order []) c.in_ok-columns.links_text.now
 up_links c =
     let u = c.in_ok-setting.ensures in
-    c.in_ok-columns.ensures c.args.bytes.now u.0 c.in_ok-setting.setting u.1
+    let p = c.in_ok-columns.columns in
+    to_links c.args.bytes.now _ _ c.in_ok-columns.links_text.now c.in_ok-columns.ensures u.0 c.in_ok-setting.setting p.order u.1 p.once refl
 
 pub returns-in_err-names : goal.returns-in_err-names
 returns-in_err-names c =
@@ -59,16 +57,11 @@ returns-in_err-names c =
     }
 
 -- up to the line after the links
-up_names : (c : In_ok-names) → UpTo c.args.bytes.now (at_links c.in_ok-setting.ensures.0 c.in_ok-setting.setting c.in_ok-columns.columns.order (vec_items c.link_table.new.mesh.links)) (c.in_ok-names.names.text.now ++ 10 ∷ c.in_ok-names.steps_text.now)
-up_names c =
+up_names : (c : In_ok-names) → UpTo c.args.bytes.now (at_links c.in_ok-setting.ensures.0 c.in_ok-setting.setting c.in_ok-columns.columns.order []) c.in_ok-columns.links_text.now → UpTo c.args.bytes.now (at_links c.in_ok-setting.ensures.0 c.in_ok-setting.setting c.in_ok-columns.columns.order (vec_items c.link_table.new.mesh.links)) (c.in_ok-names.names.text.now ++ 10 ∷ c.in_ok-names.steps_text.now)
+up_names c u =
     let o = c.in_ok-setting.ensures.0 in
     let h = c.in_ok-setting.setting in
-    let p = c.in_ok-columns.columns.order in
-    let bytes = c.args.bytes.now in
-    let u = c.in_ok-setting.ensures in
-    let first = c.in_ok-columns.ensures bytes o h u.1 in
-    let r = c.in_ok-names.ensures.reads.is bytes o h (sym (opened_as c.in_ok-setting.setting.nodes c.in_ok-setting.setting.root c.open.result c.unwrap-mesh.result c.unwrap-mesh.ensures c.open.ensures).0) first in
-    r
+    c.in_ok-names.ensures.reads.is c.args.bytes.now o h (sym (opened_as h.nodes h.root c.open.result c.unwrap-mesh.result c.unwrap-mesh.ensures c.open.ensures).0) u
 
 pub returns-in_err-step_columns : goal.returns-in_err-step_columns
 returns-in_err-step_columns c =
@@ -83,7 +76,7 @@ returns-in_err-step_columns c =
     let n : 4 + c.len-number.result ≡ 4 + length ls = omega (arith, c.len-number.ensures, c.link_table.new.mesh.links.ok.0) in
     record {
       judged = rw (e.1, e.2) (judged c.args.bytes.now (refused c.in_err-step_columns.field-0.0)
-          (refuse c.args.bytes.now (at_links o h p ls) _ line c.in_ok-names.steps_text.now l.0 c.in_err-step_columns.field-0.0 (up_names (goal.at.returns-in_err-step_columns c).In_ok-names) refl c.in_ok-names.names.cut.0 c.in_ok-names.names.cut.1.0
+          (refuse c.args.bytes.now (at_links o h p ls) _ line c.in_ok-names.steps_text.now l.0 c.in_err-step_columns.field-0.0 (up_names (goal.at.returns-in_err-step_columns c).In_ok-names (up_links (goal.at.returns-in_err-step_columns c).After-unwrap-mesh)) refl c.in_ok-names.names.cut.0 c.in_ok-names.names.cut.1.0
           (subst (λ cs. Fails cs l.0) (names_line_at o h p ls line r.ends) l.1) (l.2 ∙ ap (λ x. Line x l.0) n)));
       sized = rw e.1 tt;
     }
@@ -101,7 +94,7 @@ up_steps c u =
 pub step_table-requires : goal.step_table-requires
 step_table-requires c =
     let a = (goal.at.step_table-requires c).In_ok-step_columns in
-    let u = up_names (goal.at.step_table-requires c).In_ok-names in
+    let u = up_names (goal.at.step_table-requires c).In_ok-names (up_links (goal.at.step_table-requires c).After-unwrap-mesh) in
     let m = c.link_table.new.mesh in
     record {
       near = omega (arith, c.len-number.ensures, m.few);
@@ -117,7 +110,7 @@ returns-in_err-step_table c =
     let h = c.in_ok-setting.setting in
     let p = c.in_ok-columns.columns.order in
     let ls = vec_items c.link_table.new.mesh.links in
-    let u = up_steps (goal.at.returns-in_err-step_table c).In_ok-step_columns (up_names (goal.at.returns-in_err-step_table c).In_ok-names) in
+    let u = up_steps (goal.at.returns-in_err-step_table c).In_ok-step_columns (up_names (goal.at.returns-in_err-step_table c).In_ok-names (up_links (goal.at.returns-in_err-step_table c).After-unwrap-mesh)) in
     record {
       judged = rw (e.1, e.2) (judged c.args.bytes.now (refused c.in_err-step_table.field-0.0)
           (c.in_err-step_table.ensures.reads c.args.bytes.now o h p ls (omega (arith, c.len-number.ensures, c.link_table.new.mesh.links.ok.0))
@@ -159,7 +152,7 @@ long c u = let w = writes c u in standard_length w.0 w.1 w.2 _ w.4 w.5 w.6 ∙ a
 pub invariant_of-result : goal.invariant_of-result
 invariant_of-result c =
     let a = (goal.at.invariant_of-result c).In_ok-step_table in
-    let u = up_end a (up_steps (goal.at.invariant_of-result c).In_ok-step_columns (up_names (goal.at.invariant_of-result c).In_ok-names)) in
+    let u = up_end a (up_steps (goal.at.invariant_of-result c).In_ok-step_columns (up_names (goal.at.invariant_of-result c).In_ok-names (up_links (goal.at.invariant_of-result c).After-unwrap-mesh))) in
     record {
       picks = λ k d l. All-from_recursion (λ s. s.pick ≤ 65535) (vec_items c.step_table.new.steps) u.sound.5 k d l;
       short = omega (arith, long a u, u.short);
@@ -168,5 +161,5 @@ invariant_of-result c =
 pub returns : goal.returns
 returns c =
     let a = (goal.at.returns c).In_ok-step_table in
-    let u = up_end a (up_steps (goal.at.returns c).In_ok-step_columns (up_names (goal.at.returns c).In_ok-names)) in
+    let u = up_end a (up_steps (goal.at.returns c).In_ok-step_columns (up_names (goal.at.returns c).In_ok-names (up_links (goal.at.returns c).After-unwrap-mesh))) in
     record { judged = judged c.args.bytes.now (accepted _) (writes a u); sized = long a u }
