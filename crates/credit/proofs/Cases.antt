@@ -8,7 +8,7 @@ use Rattle.credit.specs.Places.{value, whole, credit_of, Added}
 use Rattle.credit.specs.Meaning.{is_last}
 use Rattle.credit.specs.Worked.{among, Exactly, Worked}
 use Rattle.credit.specs.ValuesLemmas.{value_none, whole_sum, credit_whole}
-use Rattle.credit.proofs.Values.{value_some, whole_room, whole_closed}
+use Rattle.credit.proofs.Values.{value_some, summed, whole_room, whole_closed}
 
 -- a place above all of these is not one of them
 above_all : (ps : List ℕ) (k : ℕ) → AllByRecursion (λ p. p < k) ps → among ps k ≡ false
@@ -86,6 +86,7 @@ no_room v c some full fits = omega arith
 
 pub cases : Worked
 cases = record {
+  summed = λ d. summed d.recovered.taken d.recovered.width;
   worth = place_worth;
   carried = λ d only. (
     ((omega arith, whole_room d.recovered.taken d.recovered.width 1 2 (only 0) (omega arith) (omega arith) (omega arith) (only 1)), tt),

@@ -1,11 +1,13 @@
 -- More on sets of places as binary numbers: when one more credit keeps the sum at one, and when it does not.
-use Rattle.std.specs.Prelude.{◌≡◌, ℕ, zero, suc, ◌+◌, ◌-◌, ◌^◌, ◌<◌, ◌≤◌, Bool, true, false, List, [], ◌∷◌, length, get_or, drop, slice_index_or}
-use Rattle.std.proofs.Common.{ap, ◌∙◌, arith, lt_irrefl, lt_of_lt_of_le, pow_pos, pow_mono}
+use Rattle.std.specs.Prelude.{◌≡◌, ℕ, zero, suc, ◌+◌, ◌-◌, ◌^◌, ◌<◌, ◌≤◌, Bool, true, false, List, [], ◌∷◌, length, get_or, drop, slice_index_or, sum_by, if◌then◌else◌, refl}
+use Rattle.std.specs.List.{range_with_len}
+use Rattle.std.proofs.lemmas.List.Sums.{sum_by-cons}
+use Rattle.std.proofs.Common.{sym, ap, ◌∙◌, arith, lt_irrefl, lt_of_lt_of_le, pow_pos, pow_mono}
 use Rattle.std.proofs.Math.Logic.{inl, inr}
 use Rattle.std.proofs.Math.Nat.{two-pow-succ}
 use Rattle.std.proofs.lemmas.Bool.{cases_Bool, cases_lt}
 use Rattle.std.proofs.lemmas.List.{length-drop, get_or-drop, get_or_past}
-use Rattle.credit.specs.Places.{value, whole, credit_of}
+use Rattle.credit.specs.Places.{place_value, value, total, whole, credit_of}
 use Rattle.credit.specs.ValuesLemmas.{place_most, when_taken, when_free, value_below, value_none, value_full}
 
 -- all places from 1 to e are taken
@@ -103,3 +105,16 @@ module _ (ps : List Bool) (long : length ps ≡ 1001) where
   pub whole_over : (e k : ℕ) → slice_index_or ps 0 false ≡ false → e ≤ 1000 → AllTaken ps e → e < k → k ≤ 1000 → slice_index_or ps k false ≡ true → whole < value ps + credit_of e
   unfolding whole
   whole_over e k = sum_over 1000 ps e k long
+
+-- From place a on, the value is the credit of the places that are taken: the first is worth 2 to the power of how many
+-- follow it, which is 1,000 less its number, and the rest follows in the same way.
+summed_from : (qs ps : List Bool) (a : ℕ) → a + length ps ≡ 1001 → ((j : ℕ) → slice_index_or qs (a + j) false ≡ slice_index_or ps j false) → sum_by (λ k. if slice_index_or qs k false then credit_of k else 0) (range_with_len a (length ps)) ≡ value ps
+summed_from qs [] a e h = refl
+summed_from qs (p ∷ ps) a e h =
+    let f : ℕ → ℕ = λ k. if slice_index_or qs k false then credit_of k else 0 in
+    let first : f a ≡ place_value p (length ps) = ap (λ b. if b then credit_of a else 0) (ap (λ j. slice_index_or qs j false) (omega arith) ∙ h 0) ∙ ap (λ n. if p then 2 ^ n else 0) (omega (arith, e)) in
+    let rest = summed_from qs ps (a + 1) (omega (arith, e)) (λ j. ap (λ k. slice_index_or qs k false) (omega arith) ∙ h (suc j)) in
+    sum_by-cons f a (range_with_len (a + 1) (length ps)) ∙ ap (λ x. x + sum_by f (range_with_len (a + 1) (length ps))) first ∙ ap (λ x. place_value p (length ps) + x) rest
+
+pub summed : (ps : List Bool) → length ps ≡ 1001 → value ps ≡ total ps
+summed ps long = sym (summed_from ps ps 0 (omega (arith, long)) (λ j. ap (λ k. slice_index_or ps k false) (omega arith))) ∙ ap (λ n. sum_by (λ k. if slice_index_or ps k false then credit_of k else 0) (range_with_len 0 n)) long

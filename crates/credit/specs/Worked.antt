@@ -1,10 +1,9 @@
 -- Worked cases of the rules, of any state with that exponent or with exactly those recovered places.
 use Rattle.std.specs.Prelude.{◌≡◌, ℕ, ◌<◌, ◌≤◌, Bool, true, false, ◌||◌, List, [], ◌∷◌, Some, Option, ◌==◌, slice_index_or}
 use Rattle.fault.specs.Checks.{Passes, Fails}
-use Rattle.detector.specs.declared.faults.DetectorFault.TheVariants.{BadItem, Spent}
 use Rattle.detector.specs.Calls.{sent_checks, control_checks}
 use Rattle.credit.specs.declared.credit.Credit.{Credit}
-use Rattle.credit.specs.Places.{value, credit_of}
+use Rattle.credit.specs.Places.{value, credit_of, total}
 use Rattle.credit.specs.Rules.{held_by}
 use Rattle.credit.specs.Meaning.{credit_meaning}
 
@@ -19,6 +18,8 @@ Exactly d places = (k : ℕ) → slice_index_or d.recovered.taken k false ≡ am
 
 -- The worked cases.
 pub record Worked : Type 0 where
+  -- the value is the credit of all recovered places together
+  pub summed : (d : Credit) → value d.recovered.taken ≡ total d.recovered.taken
   -- place e alone is worth the credit of exponent e
   pub worth : (d : Credit) (e : ℕ) → e ≤ 1000 → Exactly d (e ∷ []) → value d.recovered.taken ≡ credit_of e
   -- place 2, and the item 2 arrives: place 1
@@ -27,10 +28,10 @@ pub record Worked : Type 0 where
   -- places 1 to 4, and the item 4 arrives: announced
   pub announced : (d : Credit) → Exactly d (1 ∷ 2 ∷ 3 ∷ 4 ∷ []) →
       Passes (control_checks credit_meaning d 4) × ((item : Option ℕ) (e : Credit) → credit_meaning.control d 4 item e → credit_meaning.announced e ≡ true)
-  -- place 1, and the item 0 arrives: refused, since it would be more than one
-  pub above_one : (d : Credit) → Exactly d (1 ∷ []) → Fails (control_checks credit_meaning d 0) BadItem
+  -- place 1, and the item 0 arrives: fault 24, since it would be more than one
+  pub above_one : (d : Credit) → Exactly d (1 ∷ []) → Fails (control_checks credit_meaning d 0) 24
   -- a node with exponent 999 sends: the mark is 1,000
   pub last_sent : (d : Credit) (node : ℕ) → node < d.nodes → held_by d node ≡ Some 999 →
       Passes (sent_checks credit_meaning d node) × ((mark : ℕ) (e : Credit) → credit_meaning.sent d node mark e → mark ≡ 1000)
-  -- with exponent 1,000 it can send no more
-  pub all_sent : (d : Credit) (node : ℕ) → node < d.nodes → held_by d node ≡ Some 1000 → Fails (sent_checks credit_meaning d node) Spent
+  -- with exponent 1,000 it can send no more: fault 25
+  pub all_sent : (d : Credit) (node : ℕ) → node < d.nodes → held_by d node ≡ Some 1000 → Fails (sent_checks credit_meaning d node) 25

@@ -1,6 +1,6 @@
 //! The recovered credit, as a set of places.
-ghost use Rattle.std.specs.Prelude.{◌≡◌, ◌+◌, ◌≤◌, ◌↔◌, false, length, replicate, IsTrue, MatchOption, All};
-ghost use Rattle.credit.specs.Places.{value, whole, credit_of, IsLastFree, Added};
+ghost use Rattle.std.specs.Prelude.{◌≡◌, ℕ, ◌+◌, ◌<◌, ◌≤◌, ◌↔◌, true, false, length, replicate, IsTrue, MatchOption, All, slice_index_or};
+ghost use Rattle.credit.specs.Places.{value, whole, credit_of, IsLastFree, Added, carried};
 
 /// A set of the places 0 to 1,000, of which place e is worth the credit of exponent e, and all together at most one.
 #[derive(Debug, PartialEq, Eq, Hash, Drop)]
@@ -13,7 +13,8 @@ pub struct Places {
 impl Places {
     // No place is taken.
     pub fn none() -> Places
-        ensures { result.taken ≡ replicate 1001 false }
+        ensures all { result.taken ≡ replicate 1001 false }
+        ensures free { (k : ℕ) → slice_index_or result.taken k false ≡ false }
     {
         Places {
             taken: [false; 1001],
@@ -36,14 +37,28 @@ impl Places {
     pub fn add(&mut self, e: u16)
         requires small { e ≤ 1000 }
         requires room { value self.old.taken + credit_of e ≤ whole }
+        ensures carries { self.new.taken ≡ carried self.old.taken e }
         ensures places { Added self.old.taken e self.new.taken }
         ensures sum { value self.new.taken ≡ value self.old.taken + credit_of e }
     {
         let e = usize::from(e);
-        let free = last_free(&self.taken[..=e]).unwrap();
-        self.taken[free] = true;
-        self.taken[free + 1..=e].fill(false);
+        let place = last_free(&self.taken[..=e]).unwrap();
+        carry(&mut self.taken, place, e);
     }
+}
+
+// Takes a place, and frees those behind it up to place e.
+fn carry(taken: &mut [bool], place: usize, e: usize)
+    requires order { place ≤ e }
+    requires inside { e < length taken.old }
+    ensures size { length taken.new ≡ length taken.old }
+    ensures is_taken { slice_index_or taken.new place false ≡ true }
+    ensures are_free { (k : ℕ) → place < k → k ≤ e → slice_index_or taken.new k false ≡ false }
+    ensures same_before { (k : ℕ) → k < place → slice_index_or taken.new k false ≡ slice_index_or taken.old k false }
+    ensures same_beyond { (k : ℕ) → e < k → slice_index_or taken.new k false ≡ slice_index_or taken.old k false }
+{
+    taken[place] = true;
+    taken[place + 1..=e].fill(false);
 }
 
 // The last free one of these places.

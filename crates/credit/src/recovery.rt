@@ -1,7 +1,7 @@
 //! The calls of the credit detector.
 ghost use Rattle.std.specs.Prelude.{◌≡◌, ℕ, ◌+◌, ◌≤◌, ◌↔◌, true, false, IsTrue, OnOk, slice_index_or};
-ghost use Rattle.detector.specs.Calls.{Controls};
-ghost use Rattle.credit.specs.Places.{value, whole, credit_of};
+ghost use Rattle.detector.specs.Calls.{Opens, Sends, Receives, Idles, Controls};
+ghost use Rattle.credit.specs.Places.{value, whole, credit_of, carried};
 ghost use Rattle.credit.specs.Rules.{held_by};
 ghost use Rattle.credit.specs.Meaning.{credit_meaning};
 ghost use Rattle.credit.specs.Soundness.{credit_lawful};
@@ -37,12 +37,15 @@ impl Credit {
     }
 }
 
+// What each call does is stated here by the rules of credit recovery, and holds in any state, in balance or not.
 impl Detector for Credit {
     ghost meaning = { credit_meaning };
 
     ghost lawful = { credit_lawful };
 
-    fn open(nodes: u16, root: u16) -> Result<Credit, DetectorFault> {
+    fn open(nodes: u16, root: u16) -> Result<Credit, DetectorFault>
+        ensures rule { Opens credit_meaning nodes root result }
+    {
         check_size(nodes, root)?;
         let mut holders = Holders::none();
         holders.hold(root, Some(0));
@@ -53,7 +56,9 @@ impl Detector for Credit {
         })
     }
 
-    fn sent(&mut self, node: u16) -> Result<u16, DetectorFault> {
+    fn sent(&mut self, node: u16) -> Result<u16, DetectorFault>
+        ensures rule { Sends credit_meaning self.old node result self.new }
+    {
         check_node(self.nodes, node)?;
         let exponent = self.held(node).ok_or(DetectorFault::Passive)?;
         if exponent >= GREATEST {
@@ -64,7 +69,9 @@ impl Detector for Credit {
         Ok(mark)
     }
 
-    fn received(&mut self, node: u16, mark: u16) -> Result<Option<u16>, DetectorFault> {
+    fn received(&mut self, node: u16, mark: u16) -> Result<Option<u16>, DetectorFault>
+        ensures rule { Receives credit_meaning self.old node mark result self.new }
+    {
         check_node(self.nodes, node)?;
         if !(1..=GREATEST).contains(&mark) {
             return Err(DetectorFault::BadMark);
@@ -74,16 +81,20 @@ impl Detector for Credit {
         Ok(held.and(Some(mark)))
     }
 
-    fn idled(&mut self, node: u16) -> Result<Option<u16>, DetectorFault> {
+    fn idled(&mut self, node: u16) -> Result<Option<u16>, DetectorFault>
+        ensures rule { Idles credit_meaning self.old node result self.new }
+    {
         check_node(self.nodes, node)?;
         let exponent = self.held(node).ok_or(DetectorFault::Passive)?;
         self.holders.hold(node, None);
         Ok(Some(exponent))
     }
 
-    // Beside the rule: the value of the recovered places grows by the credit of the item.
+    // Beside the rule: a place that is taken already is carried to the next lower number, and the value of the recovered
+    // places grows by the credit of the item.
     fn control(&mut self, item: u16) -> Result<Option<u16>, DetectorFault>
         ensures rule { Controls credit_meaning self.old item result self.new }
+        ensures carries { OnOk result (self.new.recovered.taken ≡ carried self.old.recovered.taken item) }
         ensures sum { OnOk result (value self.new.recovered.taken ≡ value self.old.recovered.taken + credit_of item) }
     {
         if item > GREATEST || !self.recovered.fits(item) {

@@ -3,11 +3,11 @@ ghost use Rattle.std.specs.Prelude.{◌≡◌};
 ghost use Rattle.credit.specs.Worked.{Worked};
 
 // How many cases are worked.
-const CASES: u8 = 6;
+const CASES: u8 = 7;
 
 /// The worked cases of the rules hold. Answers how many there are.
 pub fn worked_credit() -> u8
-    ensures count { result ≡ 6 }
+    ensures count { result ≡ 7 }
     ensures hold { Worked }
 {
     CASES

@@ -3,42 +3,42 @@
 use Rattle.std.specs.Prelude.{◌≡◌, ℕ, ◌<◌, ◌≤◌, true, false, List, [], ◌∷◌, Some, Ok, Err, Option, Result}
 use Rattle.fault.specs.Checks.{Check, check, Passes, Fails}
 use Rattle.detector.specs.declared.faults.DetectorFault.{DetectorFault}
-use Rattle.detector.specs.declared.faults.DetectorFault.TheVariants.{Size, NoNode, Passive, BadMark, BadItem, Spent}
+use Rattle.detector.specs.Faults.{detector_fault_number}
 use Rattle.detector.specs.declared.told.Call.{Call}
 use Rattle.detector.specs.declared.told.Call.TheVariants.{Sent, Received, Idled, Control}
 use Rattle.detector.specs.Meaning.{Meaning}
 
 -- a detector has 1 to 64 nodes, the root among them
-abbrev pub open_checks : ℕ → ℕ → List (Check DetectorFault)
-open_checks nodes root = check Size ((nodes ≤ 64) × (root < nodes)) ∷ []
+abbrev pub open_checks : ℕ → ℕ → List (Check ℕ)
+open_checks nodes root = check 20 ((nodes ≤ 64) × (root < nodes)) ∷ []
 
 -- The checks of the other calls, in their order.
 module _ {D : Type 0} (m : Meaning D) where
   -- the sender is a node, is active, and can still send
-  abbrev pub sent_checks : D → ℕ → List (Check DetectorFault)
-  sent_checks d node = check NoNode (node < m.nodes d) ∷ check Passive (m.active d node ≡ true) ∷ check Spent (m.spent d node ≡ false) ∷ []
+  abbrev pub sent_checks : D → ℕ → List (Check ℕ)
+  sent_checks d node = check 21 (node < m.nodes d) ∷ check 22 (m.active d node ≡ true) ∷ check 25 (m.spent d node ≡ false) ∷ []
 
   -- the receiver is a node, and the mark may be on its way
-  abbrev pub received_checks : D → ℕ → ℕ → List (Check DetectorFault)
-  received_checks d node mark = check NoNode (node < m.nodes d) ∷ check BadMark (m.takes_mark d mark) ∷ []
+  abbrev pub received_checks : D → ℕ → ℕ → List (Check ℕ)
+  received_checks d node mark = check 21 (node < m.nodes d) ∷ check 23 (m.takes_mark d mark) ∷ []
 
   -- the node is there, and is active
-  abbrev pub idled_checks : D → ℕ → List (Check DetectorFault)
-  idled_checks d node = check NoNode (node < m.nodes d) ∷ check Passive (m.active d node ≡ true) ∷ []
+  abbrev pub idled_checks : D → ℕ → List (Check ℕ)
+  idled_checks d node = check 21 (node < m.nodes d) ∷ check 22 (m.active d node ≡ true) ∷ []
 
   -- the item may be on its way
-  abbrev pub control_checks : D → ℕ → List (Check DetectorFault)
-  control_checks d item = check BadItem (m.takes_item d item) ∷ []
+  abbrev pub control_checks : D → ℕ → List (Check ℕ)
+  control_checks d item = check 24 (m.takes_item d item) ∷ []
 
 -- the answer of a call with these checks and this rule, which leads from one state to another
-abbrev pub Answers : {A D : Type 0} → List (Check DetectorFault) → D → (A → D → Type 0) → Result A DetectorFault → D → Type 0
+abbrev pub Answers : {A D : Type 0} → List (Check ℕ) → D → (A → D → Type 0) → Result A DetectorFault → D → Type 0
 Answers checks before rule (Ok a) after = Passes checks × rule a after
-Answers checks before rule (Err f) after = Fails checks f × (after ≡ before)
+Answers checks before rule (Err f) after = Fails checks (detector_fault_number f) × (after ≡ before)
 
 -- the answer of checks alone
-abbrev pub Checked : List (Check DetectorFault) → Result (Unit {0}) DetectorFault → Type 0
+abbrev pub Checked : List (Check ℕ) → Result (Unit {0}) DetectorFault → Type 0
 Checked checks (Ok u) = Passes checks
-Checked checks (Err f) = Fails checks f
+Checked checks (Err f) = Fails checks (detector_fault_number f)
 
 -- the answer to whether a detector can have that many nodes with that root
 abbrev pub SizedFor : ℕ → ℕ → Result (Unit {0}) DetectorFault → Type 0
@@ -46,12 +46,12 @@ SizedFor nodes root = Checked (open_checks nodes root)
 
 -- the answer to whether a detector of that many nodes has this one
 abbrev pub IsThere : ℕ → ℕ → Result (Unit {0}) DetectorFault → Type 0
-IsThere nodes node = Checked (check NoNode (node < nodes) ∷ [])
+IsThere nodes node = Checked (check 21 (node < nodes) ∷ [])
 
 -- the answer of the call that makes a detector
 abbrev pub Opens : {D : Type 0} → Meaning D → ℕ → ℕ → Result D DetectorFault → Type 0
 Opens m nodes root (Ok d) = Passes (open_checks nodes root) × m.opened nodes root d
-Opens m nodes root (Err f) = Fails (open_checks nodes root) f
+Opens m nodes root (Err f) = Fails (open_checks nodes root) (detector_fault_number f)
 
 -- the answers of the other calls: their checks, and the detector's rule
 abbrev pub Sends : {D : Type 0} → Meaning D → D → ℕ → Result ℕ DetectorFault → D → Type 0

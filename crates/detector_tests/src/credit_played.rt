@@ -1,5 +1,5 @@
 //! Exchanges played by hand from the rules of credit recovery.
-use crate::played::{Row, opened, play};
+use crate::played::{Row, expect_over, opened, play};
 use credit::credit::Credit;
 use detector::detector::Detector;
 use detector::told::Call::{Control, Idled, Received, Sent};
@@ -25,9 +25,9 @@ const THREE_NODES: [Row; 12] = [
 fn three_nodes(rt: HostRuntime) -> Result<(), Fail> {
     let mut d = Credit::open(3, 0)?;
     play(&rt, &mut d, &THREE_NODES);
-    assert!(rt; !d.has_announced());
+    expect_over(&rt, &d, false);
     play(&rt, &mut d, &[(Control(2), Ok(None))]);
-    assert!(rt; d.has_announced());
+    expect_over(&rt, &d, true);
     Ok(())
 }
 

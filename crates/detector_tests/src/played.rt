@@ -1,6 +1,7 @@
 //! What the tests of all detectors share: lists of calls with the answers that they have to get.
 use detector::detector::Detector;
 use detector::faults::DetectorFault;
+use detector::over::is_over;
 use detector::told::{Call, make};
 use std::process::Abort;
 
@@ -13,6 +14,11 @@ pub(crate) fn play<D: Detector>(rt: &impl Abort, d: &mut D, rows: &[Row]) {
         let answer = make(d, *call).map_err(DetectorFault::number);
         assert_eq!(rt; answer, *expected);
     }
+}
+
+/// Checks whether all is over, by both questions.
+pub(crate) fn expect_over<D: Detector>(rt: &impl Abort, d: &D, expected: bool) {
+    assert_eq!(rt; (is_over(d), d.has_announced()), (expected, expected));
 }
 
 /// What an opening answers, or the number of its refusal.

@@ -1,5 +1,5 @@
 //! Exchanges played by hand from the rules of the tree.
-use crate::played::{Row, opened, play};
+use crate::played::{Row, expect_over, opened, play};
 use detector::detector::Detector;
 use detector::told::Call::{Control, Idled, Received, Sent};
 use std::test::Fail;
@@ -25,10 +25,11 @@ fn exchange(rt: HostRuntime) -> Result<(), Fail> {
     let mut t = Tree::open(3, 0)?;
     assert!(rt; t.is_active(0) && !t.is_active(1) && !t.is_active(3));
     play(&rt, &mut t, &EXCHANGE);
-    assert!(rt; !t.has_announced());
+    expect_over(&rt, &t, false);
     assert_eq!(rt; t.engaged_by(2), Some(0));
     play(&rt, &mut t, &[(Control(0), Ok(None))]);
-    assert!(rt; t.has_announced() && !t.is_active(2));
+    expect_over(&rt, &t, true);
+    assert!(rt; !t.is_active(2));
     Ok(())
 }
 

@@ -1,20 +1,45 @@
 -- Three nodes under two rules of adoption: with the wrong one their parents form a cycle, with the right one all is well.
-use Rattle.std.proofs.Common.{◌≡◌, ℕ, zero, suc, ◌<◌, true, false, ◌≢◌, List, [], ◌∷◌, None, refl, arith}
+use Rattle.std.proofs.Common.{◌≡◌, ℕ, zero, suc, ◌<◌, get_or, true, false, ◌≢◌, List, [], ◌∷◌, None, refl, arith}
+use Rattle.mesh.specs.declared.link.Link.{Link}
+use Rattle.mesh.specs.Rules.{InRange, EndsDiffer, SamePair}
 use Rattle.label.specs.declared.cost.Cost.{Cost}
 use Rattle.label.specs.Costs.{cost_kind}
 use Rattle.label.specs.Paths.{link_at}
 use Rattle.routing.specs.States.{State, Opened}
 use Rattle.routing.specs.Protocol.{Event, adopts, declines, sends, idles, Better, Trace}
 use Rattle.routing.specs.Routes.{Parents}
-use Rattle.routing.specs.Mistakes.{AtLeastAsGood, three_nodes, CycleAfter, RestAfter}
+use Rattle.routing.specs.Mistakes.{KeepsRules, AtLeastAsGood, three_nodes, CycleAfter, RestAfter}
 use Rattle.routing.proofs.Made.{at_node, at_others, after_adopting, adopted, after_declining, declined, after_sending, sent, after_idling, idled}
 
 -- The links in their order leave the nodes 0, 1 and 2.
+leaving : (k : ℕ) (d : Link) → k < 3 → (get_or three_nodes.links k d).from ≡ k
+leaving zero d h = refl
+leaving (suc zero) d h = refl
+leaving (suc (suc zero)) d h = refl
+leaving (suc (suc (suc k))) d h = absurd (omega arith)
+
 from_is : (k : ℕ) → k < 3 → (link_at three_nodes k).from ≡ k
-from_is zero h = refl
-from_is (suc zero) h = refl
-from_is (suc (suc zero)) h = refl
-from_is (suc (suc (suc k))) h = absurd (omega arith)
+from_is k h = leaving k _ h
+
+-- The three links keep the rules of a mesh, each by itself and any two together.
+ranged : (k : ℕ) (d : Link) → k < 3 → InRange 3 (get_or three_nodes.links k d)
+ranged zero d h = ((omega arith, omega arith), omega arith, (omega arith, omega arith))
+ranged (suc zero) d h = ((omega arith, omega arith), omega arith, (omega arith, omega arith))
+ranged (suc (suc zero)) d h = ((omega arith, omega arith), omega arith, (omega arith, omega arith))
+ranged (suc (suc (suc k))) d h = absurd (omega arith)
+
+differing : (k : ℕ) (d : Link) → k < 3 → EndsDiffer (get_or three_nodes.links k d)
+differing zero d h = λ e. omega (arith, e)
+differing (suc zero) d h = λ e. omega (arith, e)
+differing (suc (suc zero)) d h = λ e. omega (arith, e)
+differing (suc (suc (suc k))) d h = absurd (omega arith)
+
+-- no two links leave the same node
+apart : (i j : ℕ) (d : Link) → ((i < j) × (j < 3) × SamePair (get_or three_nodes.links i d) (get_or three_nodes.links j d) → ⊥)
+apart i j d p = omega (arith, p.0, p.1, leaving i d (omega (arith, p.0, p.1)), leaving j d p.1, p.2.0)
+
+keeps_rules : KeepsRules three_nodes
+keeps_rules = record { many = (omega arith, omega arith); rooted = omega arith; few = omega arith; ranges = ranged; ends = differing; once = apart }
 
 abbrev opened : State Cost
 opened = record {
@@ -120,6 +145,7 @@ never (k ∷ ks) =
 
 pub cycle_after : (n : ℕ) → n ≡ 6 → CycleAfter n
 cycle_after n e = record {
+  accepted = keeps_rules;
   events = hop_events AtLeastAsGood 2 (twice AtLeastAsGood) (twice_events AtLeastAsGood);
   many = omega arith;
   state = closed;
@@ -159,6 +185,7 @@ passive (suc (suc (suc v))) h = absurd (omega arith)
 
 pub rest_after : (n : ℕ) → n ≡ 9 → RestAfter n
 rest_after n e = record {
+  accepted = keeps_rules;
   events = idles 2 ∷ idles 1 ∷ idles 0 ∷ back_events;
   many = omega arith;
   state = calm;

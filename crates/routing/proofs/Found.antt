@@ -1,5 +1,5 @@
 -- The theorem on best routes.
-use Rattle.std.proofs.Common.{◌≡◌, ℕ, ◌<◌, ◌≤◌, ◌≢◌, List, [], ◌∷◌, length, ap, ◌∙◌, inl, inr, arith}
+use Rattle.std.proofs.Common.{◌≡◌, ℕ, ◌<◌, ◌≤◌, ◌≢◌, List, [], ◌∷◌, length, sym, ap, subst, ◌∙◌, inl, inr, arith}
 use mathlib.Core.List.Memᴰ
 use Rattle.mesh.specs.declared.mesh.Mesh.{Mesh}
 use Rattle.label.specs.Kinds.{Kind, Lawful}
@@ -20,6 +20,8 @@ module _ {L : Type 0} (κ : Kind L) (g : Graph) (laws : Lawful κ) (ok : Accepte
   good_route : (v : ℕ) → v < g.nodes → (r : Route g s.parent v) → κ.rank (path_label κ g r.path) ≤ κ.rank (s.label v)
   good_route v h r = good κ g laws ok s.label s.parent i.rooted r.path v h r.parents
 
+  -- Each label other than none was made by a path, and the parents of such a node lead to the root along a path at least as
+  -- good: both are invariants.
   provisional : Provisional κ g s
   provisional = record {
     root_label = i.rooted.root_label;
@@ -78,7 +80,9 @@ module _ {L : Type 0} (κ : Kind L) (laws : Lawful κ) where
 
   -- Both labels are the node's best, and it has one best label.
   agreement : Agreement κ
-  agreement m ds es s t r u p q v h = one_best κ laws (graph m) v (s.label v) (t.label v) ((best_routes m ds s r p).best v h) ((best_routes m es t u q).best v h)
+  agreement m n ds es s t same r u p q v h =
+      let other : Best κ (graph m) v (t.label v) = subst (λ g. Best κ g v (t.label v)) (sym same) ((best_routes n es t u q).best v (omega (arith, h, ap (λ g. g.nodes) same))) in
+      one_best κ laws (graph m) v (s.label v) (t.label v) ((best_routes m ds s r p).best v h) other
 
   pub routing_theorem : RoutingTheorem κ
   routing_theorem = record { best_routes = best_routes; provisional_routes = provisional_routes; agreement = agreement }

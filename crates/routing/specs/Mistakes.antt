@@ -2,6 +2,7 @@
 use Rattle.std.specs.Prelude.{◌≡◌, ℕ, ◌+◌, ◌*◌, ◌<◌, ◌≤◌, List, [], ◌∷◌, length, Some}
 use Rattle.std.proofs.Math.Facts.{leb_yes}
 use Rattle.mesh.specs.declared.link.Link.{Link}
+use Rattle.mesh.specs.Rules.{InRange, EndsDiffer, EveryLink, PairsOnce}
 use Rattle.label.specs.declared.cost.Cost.{Cost}
 use Rattle.label.specs.declared.width.Width.{Width}
 use Rattle.label.specs.Kinds.{Kind, Lawful}
@@ -12,13 +13,22 @@ use Rattle.routing.specs.States.{State, Quiet}
 use Rattle.routing.specs.Protocol.{Event, Trace, Reached}
 use Rattle.routing.specs.Routes.{Parents}
 
+-- the rules of a mesh, which a value of type `Mesh` keeps, of a graph
+pub record KeepsRules (g : Graph) : Type 0 where
+  pub many : (1 ≤ g.nodes) × (g.nodes ≤ 64)
+  pub rooted : g.root < g.nodes
+  pub few : length g.links ≤ 512
+  pub ranges : EveryLink (InRange g.nodes) g.links
+  pub ends : EveryLink EndsDiffer g.links
+  pub once : PairsOnce g.links
+
 -- The first mistake: adopting an equal label.
 
 -- the wrong rule of adoption
 abbrev pub AtLeastAsGood : ℕ → ℕ → Type 0
 AtLeastAsGood new old = new ≤ old
 
--- three nodes, the root 0, and the links 0 to 1 of cost 1, 1 to 2 of cost 0, 2 to 1 of cost 0; it keeps the rules of a mesh
+-- three nodes, the root 0, and the links 0 to 1 of cost 1, 1 to 2 of cost 0, 2 to 1 of cost 0
 abbrev pub three_nodes : Graph
 three_nodes = record {
   nodes = 3;
@@ -30,9 +40,10 @@ three_nodes = record {
       ∷ [];
 }
 
--- Under the wrong rule that many events lead to a state in which node 1 has cost 1, its parent is the link from node 2,
+-- The three nodes are a mesh, and under the wrong rule that many events lead to a state in which node 1 has cost 1, its parent is the link from node 2,
 -- and the parent of node 2 is the link from node 1: a cycle, so that the parents of node 1 never lead to the root.
 pub record CycleAfter (n : ℕ) : Type 0 where
+  pub accepted : KeepsRules three_nodes
   pub events : List (Event Cost)
   pub many : length events ≡ n
   pub state : State Cost
@@ -42,9 +53,10 @@ pub record CycleAfter (n : ℕ) : Type 0 where
   pub from_one : state.parent 2 ≡ Some 1
   pub never : (ks : List ℕ) → Parents three_nodes state.parent ks 1 → ⊥
 
--- Under the right rule that many events lead to a quiet state, in which node 1 has the same label, its parent is the link
+-- The three nodes are a mesh, and under the right rule that many events lead to a quiet state, in which node 1 has the same label, its parent is the link
 -- from the root, and the parent of node 2 is the link from node 1.
 pub record RestAfter (n : ℕ) : Type 0 where
+  pub accepted : KeepsRules three_nodes
   pub events : List (Event Cost)
   pub many : length events ≡ n
   pub state : State Cost

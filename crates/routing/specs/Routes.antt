@@ -44,14 +44,16 @@ BestRoutes {L} κ = (m : Mesh) (es : List (Event L)) (s : State L) → Reached �
 abbrev pub ProvisionalRoutes : {L : Type 0} → Kind L → Type 0
 ProvisionalRoutes {L} κ = (m : Mesh) (es : List (Event L)) (s : State L) → Reached κ (graph m) es s → Provisional κ (graph m) s
 
--- two quiet states of one mesh agree in every label, whatever led to them
+-- Two quiet states of one mesh agree in every label, whatever led to them. (Two values of type `Mesh` with the same nodes,
+-- root and links are one mesh.)
 abbrev pub Agreement : {L : Type 0} → Kind L → Type 0
 Agreement {L} κ =
-    (m : Mesh) (ds es : List (Event L)) (s t : State L)
+    (m n : Mesh) (ds es : List (Event L)) (s t : State L)
+    → graph m ≡ graph n
     → Reached κ (graph m) ds s
-    → Reached κ (graph m) es t
+    → Reached κ (graph n) es t
     → Quiet (graph m) s
-    → Quiet (graph m) t
+    → Quiet (graph n) t
     → (v : ℕ) → v < m.nodes → s.label v ≡ t.label v
 
 pub record RoutingTheorem {L : Type 0} (κ : Kind L) : Type 0 where

@@ -46,6 +46,8 @@ module _ (nodes root : ℕ) (announced : Bool) (rs : List Node) (marks items : L
   below_suc : (n k : ℕ) → k < suc n → (k < n) ⊎ (k ≡ n)
   below_suc n k lt = elim (cases_lt k n) [ inl l ↦ inl l | inr g ↦ inr (omega arith) ]
 
+  -- Consider node n beside those before it: outside the tree it changes nothing; in the tree it is the highest, or the one
+  -- found before is.
   deepest : (n : ℕ) → Deepest n
   deepest zero = inl (λ k lt. absurd (omega arith))
   deepest (suc n) =

@@ -53,6 +53,7 @@ balanced_by t u i r a marks items owe item answer b e h =
     let moved = becomes (λ n r a xs. Lands n r a xs marks items owe item) t u i r a b h in
     subst (StillBalanced tree_meaning u marks items owe) (sym e) (record { balanced = moved.0; owing = moved.1 })
 
+-- Opened: the table has the root's record and blank ones, so only the root is active and in the tree, and nothing is owed.
 opening : (nodes root : ℕ) (t : Tree) → Passes (open_checks nodes root) → Opened nodes root t → Fresh tree_meaning nodes root t
 opening nodes root t pass h =
     let rs = replicate 64 blank in
@@ -70,6 +71,7 @@ opening nodes root t pass h =
       owed = move (λ _ _ _ xs. owed xs [] ≡ 0) (opened_owes nodes root rs lt inside blanks);
     }
 
+-- Sent: the sender's deficit rises by one as its mark joins the marks; activity and the tree stay as they are.
 sending : (t u : Tree) (i mark : ℕ) → Passes (sent_checks tree_meaning t i) → Sent t i mark u → Sending tree_meaning t u mark
 sending t u i mark pass h =
     let rs = t.table.records in
@@ -121,6 +123,7 @@ receiving t u i m item pass h = by_bool r.engaged P in_tree outside h.signal h.s
       );
     }
 
+-- Idled: the node is passive. If it could leave now it has left, and the signal to its parent is the one less that is owed.
 idling : (t u : Tree) (i : ℕ) (item : Option ℕ) → Passes (idled_checks tree_meaning t i) → Happens t i Idled item u → Idling tree_meaning t u i item
 idling t u i item pass h =
     let r = resting (at t i) in
@@ -130,6 +133,7 @@ idling t u i item pass h =
       kept = λ marks items x. balanced_by t u i _ _ marks items _ _ item h.state h.signal (idled_keeps t.nodes t.root t.announced t.table.records i (within t i inside) marks items x);
     }
 
+-- Control: the signal leaves the waiting items and the deficit that counted it falls by one; then the node leaves if it can.
 controlling : (t u : Tree) (i : ℕ) (item : Option ℕ) → Passes (control_checks tree_meaning t i) → Happens t i Control item u → Controlling tree_meaning t u i item
 controlling t u i item pass h =
     let r = lowered (at t i) in

@@ -1,5 +1,6 @@
 //! The calls of the tree as a detector.
 ghost use Rattle.std.specs.Prelude.{◌≡◌, ◌<◌, ◌↔◌, if◌then◌else◌, Some, None, nat_lt, IsTrue};
+ghost use Rattle.detector.specs.Calls.{Opens, Sends, Receives, Idles, Controls};
 ghost use Rattle.tree.specs.Steps.{Happens, HasDeficit, at};
 ghost use Rattle.tree.specs.Balance.{tree_meaning};
 ghost use Rattle.tree.specs.Rightness;
@@ -55,12 +56,15 @@ impl Tree {
     }
 }
 
+// What each call does is stated here by the tree's own rules, and holds in any state, in balance or not.
 impl Detector for Tree {
     ghost meaning = { tree_meaning };
 
     ghost lawful = { Rightness.lawful };
 
-    fn open(nodes: u16, root: u16) -> Result<Tree, DetectorFault> {
+    fn open(nodes: u16, root: u16) -> Result<Tree, DetectorFault>
+        ensures rule { Opens tree_meaning nodes root result }
+    {
         check_size(nodes, root)?;
         let mut records = [Node::BLANK; 64];
         records[usize::from(root)] = Node::FIRST;
@@ -72,7 +76,9 @@ impl Detector for Tree {
         })
     }
 
-    fn sent(&mut self, node: u16) -> Result<u16, DetectorFault> {
+    fn sent(&mut self, node: u16) -> Result<u16, DetectorFault>
+        ensures rule { Sends tree_meaning self.old node result self.new }
+    {
         let sender = self.node(node).ok_or(DetectorFault::NoNode)?;
         if !sender.active {
             return Err(DetectorFault::Passive);
@@ -84,7 +90,9 @@ impl Detector for Tree {
         Ok(node)
     }
 
-    fn received(&mut self, node: u16, mark: u16) -> Result<Option<u16>, DetectorFault> {
+    fn received(&mut self, node: u16, mark: u16) -> Result<Option<u16>, DetectorFault>
+        ensures rule { Receives tree_meaning self.old node mark result self.new }
+    {
         check_node(self.nodes, node)?;
         if !self.has_deficit(mark) {
             return Err(DetectorFault::BadMark);
@@ -92,7 +100,9 @@ impl Detector for Tree {
         Ok(self.tell(node, Event::Received(mark)))
     }
 
-    fn idled(&mut self, node: u16) -> Result<Option<u16>, DetectorFault> {
+    fn idled(&mut self, node: u16) -> Result<Option<u16>, DetectorFault>
+        ensures rule { Idles tree_meaning self.old node result self.new }
+    {
         let record = self.node(node).ok_or(DetectorFault::NoNode)?;
         if !record.active {
             return Err(DetectorFault::Passive);
@@ -100,7 +110,9 @@ impl Detector for Tree {
         Ok(self.tell(node, Event::Idled))
     }
 
-    fn control(&mut self, item: u16) -> Result<Option<u16>, DetectorFault> {
+    fn control(&mut self, item: u16) -> Result<Option<u16>, DetectorFault>
+        ensures rule { Controls tree_meaning self.old item result self.new }
+    {
         if !self.has_deficit(item) {
             return Err(DetectorFault::BadItem);
         }
