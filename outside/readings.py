@@ -190,10 +190,7 @@ def order_cases():
         yield case("order-links-" + "-".join(order), lines, VALID)
 
     row = {"nodes": "9", "root": "8", "kind": "width", "detector": "credit", "channel": "picked"}
-    chosen = list(itertools.permutations(row))[::5]
-    places = {(place, name) for order in chosen for place, name in enumerate(order)}
-    assert len(places) == len(row) * len(row)  # each name stands at each place
-    for order in chosen:
+    for order in itertools.permutations(row):
         lines = with_settings(" ".join(order), in_order(order, row))
         yield case("order-settings-" + "-".join(order), lines, VALID)
 

@@ -6,8 +6,7 @@
 #![tactic(auto)]
 
 use anyhow::anyhow;
-use session::session::Room;
-use standard::report::printed;
+use standard::source::answered;
 use std::alloc::{AllocError, Global};
 use std::fs;
 use std::io::Write;
@@ -51,8 +50,7 @@ fn sum_of(text: &[u8]) -> u32 {
 
 // Prints what `normalize` prints of a file.
 fn show(out: &mut impl Write, heap: Global, file: &[u8]) -> anyhow::Result<()> {
-    let answer = Room::reserve(heap)?.read(file);
-    let text = printed(heap, &answer)?;
+    let text = answered(heap, file)?;
     let length = text.len();
     if length > WHOLE {
         let sum = sum_of(&text);

@@ -4,7 +4,7 @@ use Rattle.fault.specs.Layers.{layer_word}
 use Rattle.fault.specs.declared.Layer.TheVariants.{Reader}
 use Rattle.vocab.specs.declared.faults.ReadFault.{ReadFault}
 use Rattle.format.specs.Content.{standard}
-use Rattle.format.specs.Verdict.{Judgement, accepted, refused}
+use Rattle.format.specs.Verdict.{Judgement, accepted, refused, Judged}
 use Rattle.vocab.specs.Faults.{fault_number, fault_line, fault_field}
 use Rattle.standard.specs.Texts.{line}
 
@@ -24,3 +24,7 @@ report_text (refused f) = fault_text f
 abbrev pub Written : List ℕ → List ℕ → List ℕ → Option ℕ → Type 0
 Written t old new (Some n) = (n ≡ length t) × (n ≤ length old) × (new ≡ t ++ drop n old)
 Written t old new None = (length old < length t) × (new ≡ old)
+
+-- what is printed of a file that has these bytes
+abbrev pub Reported : List ℕ → List ℕ → Type 0
+Reported bytes printed = (j : Judgement) × Judged bytes j × (printed ≡ report_text j)

@@ -4,3 +4,4 @@
 mod put;
 pub mod report;
 mod rows;
+pub mod source;
