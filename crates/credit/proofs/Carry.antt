@@ -53,7 +53,7 @@ at_once ps qs e inside a last = ext_get_or false qs (set ps e true) (a.size ∙ 
       | inr ne ↦ by_side ps qs e a last k ne ∙ sym (get_or-set_other ps e k true false ne)
     ])
 
--- Places that have one more credit place by place have it by carrying. Consider place e. If it was free, it is the place
+-- Places that have one more credit at once have it by carrying. Consider place e. If it was free, it is the place
 -- that was taken, and nothing is carried. Otherwise it was taken; once it is cleared, what is left to show is the same of
 -- one place less.
 carrying : (ps qs : List Bool) (e : ℕ) → e < length ps → Added ps e qs → qs ≡ carried ps e

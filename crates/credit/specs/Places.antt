@@ -19,12 +19,12 @@ whole = 2 ^ 1000
 abbrev pub credit_of : ℕ → ℕ
 credit_of e = 2 ^ (1000 - e)
 
--- the credit of all places that are taken
+-- the credit of those of the 1,001 places that are taken
 abbrev pub total : List Bool → ℕ
 total ps = sum_by (λ k. if slice_index_or ps k false then credit_of k else 0) (range_with_len 0 1001)
 
 -- one more credit at place e: a free place is taken; a taken one is cleared, and its credit is carried to the next lower
--- number
+-- number; place 0, with none lower, is taken
 abbrev pub carried : List Bool → ℕ → List Bool
 carried ps zero = slice_set ps zero true
 carried ps (suc e) = if slice_index_or ps (suc e) false then carried (slice_set ps (suc e) false) e else slice_set ps (suc e) true
@@ -35,7 +35,7 @@ pub record IsLastFree (ps : List Bool) (place : ℕ) : Type 0 where
   pub is_free : slice_index_or ps place false ≡ false
   pub rest_taken : (k : ℕ) → place < k → k < length ps → slice_index_or ps k false ≡ true
 
--- The same place by place: the last free place up to e is taken, the places after it up to e, which were taken, are
+-- The same at once: the last free place up to e is taken, the places after it up to e, which were taken, are
 -- freed, and every other place is as it was.
 pub record Added (before : List Bool) (e : ℕ) (after : List Bool) : Type 0 where
   pub place : ℕ

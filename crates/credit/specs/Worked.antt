@@ -1,4 +1,4 @@
--- Worked cases of the rules, of any state with that exponent or with exactly those recovered places.
+-- Worked cases of the rules, of any state with that exponent or with exactly those recovered places; and what the value is.
 use Rattle.std.specs.Prelude.{◌≡◌, ℕ, ◌<◌, ◌≤◌, Bool, true, false, ◌||◌, List, [], ◌∷◌, Some, Option, ◌==◌, slice_index_or}
 use Rattle.fault.specs.Checks.{Passes, Fails}
 use Rattle.detector.specs.Calls.{sent_checks, control_checks}

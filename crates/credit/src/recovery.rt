@@ -90,8 +90,8 @@ impl Detector for Credit {
         Ok(Some(exponent))
     }
 
-    // Beside the rule: a place that is taken already is carried to the next lower number, and the value of the recovered
-    // places grows by the credit of the item.
+    // Beside the rule: credit at a place that is taken already is carried to the next lower number, the place being cleared;
+    // and the value of the recovered places grows by the credit of the item.
     fn control(&mut self, item: u16) -> Result<Option<u16>, DetectorFault>
         ensures rule { Controls credit_meaning self.old item result self.new }
         ensures carries { OnOk result (self.new.recovered.taken ≡ carried self.old.recovered.taken item) }

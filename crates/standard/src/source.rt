@@ -1,5 +1,5 @@
 //! What is printed of a source of bytes.
-ghost use Rattle.std.specs.Prelude.{IfOk, IfSome};
+ghost use Rattle.std.specs.Prelude.{ℕ, List, IfOk, IfSome};
 ghost use Rattle.standard.specs.Report.{Reported};
 
 use crate::report::printed;
@@ -12,8 +12,10 @@ use std::io::{self, Read};
 const LIMIT: u64 = MAX_BYTES as u64 + 1;
 
 /// Reads a session file from a source, and answers what is printed of it: the session in the standard order, or its fault.
+/// The clause `source` speaks of sources whose bytes are known, such as slices.
 pub fn answered<R: Read + Drop>(heap: Global, source: R) -> io::Result<Vec<u8>>
-    ensures { IfOk result (λ text. IfSome (R.Read.remaining source) (λ bytes. Reported bytes text.items)) }
+    ensures file { IfOk result (λ text. (bytes : List ℕ) × Reported bytes text.items) }
+    ensures source { IfOk result (λ text. IfSome (R.Read.remaining source) (λ bytes. Reported bytes text.items)) }
 {
     let room = Room::reserve(heap)?;
     let mut bytes = Vec::new(heap);

@@ -8,4 +8,8 @@ use Rattle.standard.proofs.source.answered.Goals as goal
 pub returns : goal.returns
 returns g c =
     let read : IfSome (option_map (take c.take.result.limit) (g.R.Read.remaining c.take.result.inner)) (λ xs. c.read_to_end.new.buf.items ≡ c.new-bytes.result.items ++ xs) = c.in_ok-read_to_end.ensures.bytes in
-    reported c.take.result.limit (omega (arith, c.take.ensures.limit)) (g.R.Read.remaining c.args.source) c.read_to_end.new.buf.items c.read.result c.in_ok-printed.field-0.items (rw (c.take.ensures.inner, c.new-bytes.ensures.items) at read) (subst (λ b. Judged b (judgement c.read.result)) c.deref.ensures.value c.read.ensures.judged) c.in_ok-printed.ensures
+    let judged = subst (λ b. Judged b (judgement c.read.result)) c.deref.ensures.value c.read.ensures.judged in
+    record {
+      file = (c.read_to_end.new.buf.items, (judgement c.read.result, judged, c.in_ok-printed.ensures));
+      source = reported c.take.result.limit (omega (arith, c.take.ensures.limit)) (g.R.Read.remaining c.args.source) c.read_to_end.new.buf.items c.read.result c.in_ok-printed.field-0.items (rw (c.take.ensures.inner, c.new-bytes.ensures.items) at read) judged c.in_ok-printed.ensures;
+    }
