@@ -29,7 +29,7 @@ impl Places {
     {
         let e = usize::from(e);
         !self.taken[0]
-            && (self.taken[1..=e].contains(&false) || !self.taken[e + 1..].contains(&true))
+            && (last_free(&self.taken[1..=e]).is_some() || !self.taken[e + 1..].contains(&true))
     }
 
     // One more credit: the nearest free place towards place 0 is taken, and those passed on the way are freed. There is

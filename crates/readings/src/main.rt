@@ -49,14 +49,14 @@ fn sum_of(text: &[u8]) -> u32 {
 }
 
 // Prints what `normalize` prints of a file.
-fn show(out: &mut impl Write, heap: Global, file: &[u8]) -> anyhow::Result<()> {
+fn show(rt: &HostRuntime, heap: Global, file: &[u8]) -> anyhow::Result<()> {
     let text = answered(heap, file)?;
     let length = text.len();
     if length > WHOLE {
         let sum = sum_of(&text);
-        writeln!(out, "bytes {length} sum {sum}")?;
+        println!(rt; "bytes {length} sum {sum}")?;
     } else {
-        out.write_all(&text)?;
+        rt.stdout().write_all(&text)?;
     }
     Ok(())
 }
@@ -76,18 +76,17 @@ fn counted(text: &str) -> (u32, &str) {
 fn main(rt: HostRuntime) -> anyhow::Result<()> {
     let heap = rt.alloc();
     let archive = fs::read_to_string(&rt, "readings.txt")?;
-    let mut out = rt.stdout();
     let mut file = Vec::new(heap);
     let mut is_first = true;
     for line in archive.as_str().lines() {
         match line.split_once(' ') {
             Some(("case", _)) => {
                 if !is_first {
-                    show(&mut out, heap, &file)?;
+                    show(&rt, heap, &file)?;
                 }
                 is_first = false;
                 file.clear();
-                writeln!(out, "{line}")?;
+                println!(rt; "{line}")?;
             }
             Some(("t", piece)) => append(&mut file, piece)?,
             Some(("r", text)) => {
@@ -99,5 +98,5 @@ fn main(rt: HostRuntime) -> anyhow::Result<()> {
             _ => return Err(anyhow!("a line of readings.txt is none of case, t and r")),
         }
     }
-    show(&mut out, heap, &file)
+    show(&rt, heap, &file)
 }

@@ -1,24 +1,24 @@
-use Rattle.std.proofs.Common.{◌+◌, ◌-◌, inl, inr, arith}
-use Rattle.std.proofs.lemmas.Bool.{both_ways, cases_Bool, not-true, not_from_false, true_from_ne_false, false_from_ne_true}
+use Rattle.std.proofs.Common.{◌+◌, ◌-◌, ◌∙◌, sym, inl, inr, arith}
+use Rattle.std.proofs.lemmas.Bool.{both_ways, cases_Bool, not-true, not_from_false, false_from_ne_true}
 use Rattle.credit.specs.ValuesLemmas.{whole_taken, credit_some}
 use Rattle.credit.proofs.Values.{AllTaken, whole_room, whole_closed, whole_over}
-use Rattle.credit.proofs.Parts.{found, not_found}
+use Rattle.credit.proofs.Parts.{found, not_found, one_free, none_free}
 use Rattle.credit.proofs.places.Places.fits.Goals as goal
 
-pub returns-then-contains : goal.returns-then-contains
-returns-then-contains c =
+pub returns-then-is_some : goal.returns-then-is_some
+returns-then-is_some c =
     let places = c.args.self.now in
-    let free = found places.taken 1 (c.from-e.result + 1 - 1) (omega (arith, places.width)) _ _ c.contains.ensures.cases c.if-contains.true in
-    (λ _. whole_room places.taken places.width free.0 c.args.e c.if-not-self.true free.1 (omega arith) c.requires free.3, λ _. c.if-contains.true)
+    let free = one_free places.taken 1 (c.from-e.result + 1 - 1) (omega (arith, places.width)) c.last_free.result c.last_free.ensures (sym c.is_some.ensures ∙ c.if-is_some.true) in
+    (λ _. whole_room places.taken places.width free.0 c.args.e c.if-not-self.true free.1 (omega arith) c.requires free.3, λ _. c.if-is_some.true)
 
-pub returns-else-contains : goal.returns-else-contains
-returns-else-contains c =
+pub returns-else-is_some : goal.returns-else-is_some
+returns-else-is_some c =
     let places = c.args.self.now in
     let i = c.from-e.result in
-    let none = not_found places.taken 1 (i + 1 - 1) (omega (arith, places.width)) _ _ c.contains.ensures.cases c.if-contains.false in
-    let run : AllTaken places.taken c.args.e = λ k low high. true_from_ne_false _ (none k low (omega arith)) in
-    let r = c.contains-else-contains.result in
-    let behind = c.contains-else-contains.ensures.cases in
+    let full = none_free places.taken 1 (i + 1 - 1) (omega (arith, places.width)) c.last_free.result c.last_free.ensures (sym c.is_some.ensures ∙ c.if-is_some.false) in
+    let run : AllTaken places.taken c.args.e = λ k low high. full k low (omega arith) in
+    let r = c.contains.result in
+    let behind = c.contains.ensures.cases in
     elim (cases_Bool r) [
       | inl on ↦ (let more = found places.taken (i + 1) (1001 - (i + 1)) (omega (arith, places.width)) _ _ behind on in
           let over = whole_over places.taken places.width c.args.e more.0 c.if-not-self.true c.requires run (omega arith) (omega arith) more.3 in
