@@ -78,6 +78,19 @@ fn stack_takes_the_newest(rt: HostRuntime) {
     assert_eq!(rt; taken(&mut stack, 0), Ok(1));
 }
 
+// Channels stand in an array like any other value.
+#[test]
+fn in_an_array(rt: HostRuntime) {
+    let mut few = [Item { parts: 0u16 }; 1];
+    let mut more = [Item { parts: 0u16 }; 2];
+    let mut both = [Stack::new(&mut few), Stack::new(&mut more)];
+    assert_eq!(rt; put(&mut both[0], 1), Ok(()));
+    assert_eq!(rt; put(&mut both[0], 2), Err(31));
+    assert_eq!(rt; put(&mut both[1], 3), Ok(()));
+    assert_eq!(rt; (both[0].waiting(), both[1].waiting()), (1, 1));
+    assert_eq!(rt; taken(&mut both[0], 0), Ok(1));
+}
+
 // Of 10 to 14: 65,535 leaves 0 by 5 and 3 by 4; 7 leaves 1 by 3; the rest stay in their order.
 #[test]
 fn picks(rt: HostRuntime) {

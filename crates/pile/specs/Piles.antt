@@ -1,5 +1,5 @@
 -- Piles as channels over slots: the stack takes the newest item, picked the one at the pick's place modulo the number
--- waiting.
+-- waiting. The meaning is total: it makes sense of any slots and any numbers.
 use Rattle.std.specs.Prelude.{ℕ, ◌<◌, List, length, take}
 use Rattle.std.proofs.Common.{arith, length-take}
 use Rattle.channel.specs.declared.item.Item.{Item}

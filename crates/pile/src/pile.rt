@@ -1,5 +1,5 @@
 //! A channel whose items lie in the first of the lent slots, and the rule of which of them a take takes.
-ghost use Rattle.std.specs.Prelude.{◌≡◌, ℕ, ◌<◌, ◌≤◌, [], length};
+ghost use Rattle.std.specs.Prelude.{◌≡◌, ℕ, ◌<◌, [], length};
 
 use channel::channel::{Channel, OverSlots};
 use channel::item::{ChannelFault, Item};
@@ -25,7 +25,6 @@ pub struct Pile<'a, P, R> {
     slots: &'a mut [Item<P>],
     count: usize,
     rule: PhantomData<R>,
-    ghost within: { count ≤ length slots.now },
 }
 
 impl<'a, P, R> Pile<'a, P, R> {
@@ -52,7 +51,7 @@ impl<'a, P: Copy, R: Rule> Channel<P> for Pile<'a, P, R> {
     ghost sound = { pile_sound R.place R.there };
 
     fn put(&mut self, parts: P) -> Result<(), ChannelFault> {
-        if self.count == self.slots.len() {
+        if self.count >= self.slots.len() {
             return Err(ChannelFault::Full);
         }
         self.slots[self.count] = Item { parts };
@@ -62,18 +61,19 @@ impl<'a, P: Copy, R: Rule> Channel<P> for Pile<'a, P, R> {
 
     // Those behind the item taken move one place down, with it to their end.
     fn take(&mut self, pick: u16) -> Result<Item<P>, ChannelFault> {
-        if self.count == 0 {
+        let count = self.waiting();
+        if count == 0 {
             return Err(ChannelFault::Empty);
         }
-        let place = R::place(self.count, pick);
+        let place = R::place(count, pick);
         let item = self.slots[place];
-        self.slots[place..self.count].rotate_left(1);
-        self.count -= 1;
+        self.slots[place..count].rotate_left(1);
+        self.count = count - 1;
         Ok(item)
     }
 
     fn waiting(&self) -> usize {
-        self.count
+        self.count.min(self.slots.len())
     }
 
     fn capacity(&self) -> usize {

@@ -1,4 +1,5 @@
--- The queue as a channel over slots: it takes the oldest item.
+-- The queue as a channel over slots: it takes the oldest item. Its meaning is total: it makes sense of any slots and any
+-- numbers.
 use Rattle.std.specs.Prelude.{ℕ, List, ◌++◌, length, take, drop}
 use Rattle.std.proofs.Common.{arith, length-take, length-drop, length-append}
 use Rattle.channel.specs.declared.item.Item.{Item}

